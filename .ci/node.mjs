@@ -108,6 +108,10 @@ for (const [given, text] of [['0;1;98;31m', '0m 1m 98m 31m'], ['1;m', '1m 0m'], 
     if (Buffer.from(codec.encode(actions)).toString() !== wanted) wrong(`terminals take ${given} for ${actions.length} other actions`);
 }
 if ([...codec.events('\x1b[0;98;31m')].length !== 2) wrong('98 and what follows are one action');
+const BOX = '\x1b(0lqqqqqqqk\x1b(Bq'; // in ASCII, and drawn as other characters
+for (const shown of [codec.strip(BOX), codec.clean(BOX), codec.overwrite(BOX), codec.html(BOX, { fragment: true }), codec.html(BOX, { fragment: true, overwrite: false })]) {
+    if (shown !== '┌───────┐q') wrong(`a line that is drawn is ${shown}`);
+}
 if (codec.strip('\x1b[1mé') !== 'é' || codec.normalise('\x1b[01;3m') !== '\x1b[1m\x1b[3m') wrong('strings');
 try {
     codec.normalise('\x1b[1mx');
@@ -117,7 +121,7 @@ try {
 }
 
 // Lines as they come are those of the whole: short streams at random of what lines are made of, in pieces of each length.
-const BITS = ['a', 'é', '\n', '\n', '\r', '\x1b[1m', '\x1b[38;5;200;4m', '\x1b[m', '\x1b[8m', '\x1bc', '\x1bkt', '\x1b\\', '\x1b]0;t\n', '\x07', '\x1b[3\n1m', '\x1b[K', '\x1b[2C', '\x1bM', '\x1b7', '\x1b8', '\x1b[', '\x1bP\n', '\t', '\x18', '\x1b]8;;http://a.b\x07', '\x0e', '\x1b(0'];
+const BITS = ['a', 'é', '\n', '\n', '\r', '\x1b[1m', '\x1b[38;5;200;4m', '\x1b[m', '\x1b[8m', '\x1bc', '\x1bkt', '\x1b\\', '\x1b]0;t\n', '\x07', '\x1b[3\n1m', '\x1b[K', '\x1b[2C', '\x1bM', '\x1b7', '\x1b8', '\x1b[', '\x1bP\n', '\t', '\x18', '\x1b]8;;http://a.b\x07', '\x0e', '\x0f', '\x1b(0', '\x1b)0', '\x1b(B', 'q'];
 let seed = 1;
 const drawn = below => { seed = (seed * 48271) % 0x7fffffff; return seed % below; };
 for (let i = 0; i < 3000; i++) {

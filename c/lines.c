@@ -70,7 +70,7 @@ static int is_same(int form, const uint8_t *bytes, size_t len, size_t piece, siz
 static const char *const bits[] = {
     "a", "\xc3\xa9", "\n", "\n", "\n", "\r", "\x1b[1m", "\x1b[38;5;200;4m", "\x1b[m", "\x1b[8m", "\x1b" "c", "\x1bkt", "\x1b\\",
     "\x1b]0;t\n", "\x07", "\x1b[3\n1m", "\x1b[K", "\x1b[2C", "\x1bM", "\x1b" "7", "\x1b" "8", "\x1b[", "\x1bP\n", "\t", "\x18", "\x0e",
-    "\x1b(0", "\x1b[5;7H", "\x1b[2", "\x1b]8;;http://a.b\x07", "\x1b[s", "\x1b[u", "\x1b[?1048h", "\x1b[4h", "\x1b[!p", "\x1b[?25;1049h", "\x1b[?25h",
+    "\x0f", "q", "\x1b(0", "\x1b(B", "\x1b)0", "\x1b)B", "\x1b(A", "#", "\x1b[5;7H", "\x1b[2", "\x1b]8;;http://a.b\x07", "\x1b[s", "\x1b[u", "\x1b[?1048h", "\x1b[4h", "\x1b[!p", "\x1b[?25;1049h", "\x1b[?25h",
     "\x1b[1;3;5;7;9;53;38;2;1;2;3;48;2;4;5;6;58:2::7:8:9m", "<&>", "\x1bH", "\x1b[3g", "\x1b[g", "\x1b[?5W", "\x1b[1;5r", "\x1b[?69h",
     "\x1b[5;10s", "\x1b[1\"q", "\x1b[0\"q", "\x1b[?2K", "\x1b[?K", "\x1b[?J", "\x1b[2J", "\x1b[J", "\x1b[1J", "\x1b[3b", "\x1b[b",
     "\x1b[5@", "\x1b[3P", "\x1b[4X", "\x1b[2L", "\x1b[M", "\x1b[3A", "\x1b[B", "\x1b[E", "\x1b[F", "\x1b[7G", "\x1b[3d", "\x1b[2I",
@@ -83,7 +83,7 @@ static const char *const bits[] = {
     "\x1b[?1048s", "\x1b[?1048r", "\x1b[?1r", "\x1b[u", "\x1b" "8", "\x1b[?1049 ;h"
 };
 /* How many of them are taken in each second stream. */
-enum { OFTEN = 39 };
+enum { OFTEN = 46 };
 static uint64_t state = 88172645463325252u;
 
 static size_t any(size_t below) {

@@ -136,10 +136,12 @@ static int all_calls(const uint8_t *bytes, size_t len) {
     struct csicodec_spanned span = csicodec_span(any(7), any(20), bytes, len);
     struct csicodec_filtered compacted = any(2) ? csicodec_compact(any(7), any(20), bytes, len, out, room)
                                                 : csicodec_compact_semicolons(any(7), any(20), bytes, len, out, room);
-    struct csicodec_cleaning state = {any(7), any(3), any(3), any(5)};
+    struct csicodec_cleaning state = {any(7), any(52), any(3), any(5)};
     struct csicodec_cleaned step = any(2) ? csicodec_strip_step(&state, bytes, len, out, room)
                                           : csicodec_clean_step(any(4), &state, bytes, len, out, room);
-    int is_state = state.mode < 6 && state.titled < 2 && state.styled < 2 && state.held <= 3 && state.held <= len;
+    /* A title, what is shifted in, and one of three sets as G0 and as G1. */
+    int is_read = state.titled < 48 && state.titled / 4 % 4 < 3;
+    int is_state = state.mode < 6 && is_read && state.styled < 2 && state.held <= 3 && state.held <= len;
     good &= step.used + step.state.held <= len && step.state.held <= 3 && (is_state || step.status == CSICODEC_BAD_STATE);
     good &= csicodec_clean_end(&state, bytes, len, out, room).status == (is_state ? CSICODEC_OK : CSICODEC_BAD_STATE);
     good &= csicodec_clean_with(any(3), any(2), bytes, len, out, room).status == CSICODEC_OK;

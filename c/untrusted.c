@@ -17,6 +17,7 @@ static const char *const texts[][3] = {
     {"\x1b[01;31mred\x1b[2Jtext", "redtext", "\x1b[1m\x1b[31mredtext\x1b[0m"},
     {"a\x1b]0;title\x07" "b\xc2\x1b[m\x9b", "ab\xef\xbf\xbd\xef\xbf\xbd", "ab\xef\xbf\xbd\x1b[0m\xef\xbf\xbd"},
     {"x\x1b[8mhidden\x1b[28m\x1b_abc", "xhidden", "xhidden\x1b[28m\x1b[0m"},
+    {"\x1b(0lqk\x1b(B\x1b)0\x0eq\x0fq", "\xe2\x94\x8c\xe2\x94\x80\xe2\x94\x90\xe2\x94\x80q", "\xe2\x94\x8c\xe2\x94\x80\xe2\x94\x90\xe2\x94\x80q"},
     {"", "", ""}};
 /* Bytes, what passes of them, and what is left then. */
 static const struct {
@@ -35,9 +36,9 @@ static const char *const streams[][3] = {
     {"\x1b[38:5:99m", "\x1b[38:5:99m", "\x1b[38;5;99m"},
     {"\x1b[1m\x1b]0;[01m\x07", "\x1b[1m\x1b]0;[01m\x07", "\x1b[1m\x1b]0;[01m\x07"},
     {"\x1b[07;2*y", "\x1b[07;2*y", "\x1b[07;2*y"}};
-/* Characters that are cut, by the end and by sequences; titles; styles; strings; a sequence with a control in it. */
+/* Characters that are cut, by the end and by sequences; titles; styles; strings; a sequence with a control in it; graphic sets. */
 static const uint8_t untrusted[] = "a\xc3\xa9\x1b[01;38;2;250;5;5mred\x1b]8;;u\x07\x1bk\xc3t\x1b\\\xe2\x82\x1b[3m\xac\xf0\x9f\x98\x80"
-                                   "\xf0\x9f\x1b]0;t\x1b[1\b;2m\xe2\x82\x1b[0m\x1b[8mh\x1b[4m\xf0\x9f\x98\x1b[2";
+                                   "\xf0\x9f\x1b]0;t\x1b[1\b;2m\xe2\x82\x1b[0m\x1b[8mh\x1b[4m\xf0\x9f\x98\x1b(0q\x1b)A#\x0e#\x1b[!pq#\x1b[2";
 
 enum { PLAIN = 9 };
 
@@ -68,7 +69,7 @@ static int stepped(uint32_t depth, size_t first, size_t second) {
 
 /* States that no step answers, and numbers of nothing. */
 static int bad_states(void) {
-    static const struct csicodec_cleaning states[] = {{6, 0, 0, 0}, {0, 2, 0, 0}, {0, 0, 2, 0}, {0, 0, 0, 4}, {0, 0, 0, 3}};
+    static const struct csicodec_cleaning states[] = {{6, 0, 0, 0}, {0, 12, 0, 0}, {0, 48, 0, 0}, {0, 0, 2, 0}, {0, 0, 0, 4}, {0, 0, 0, 3}};
     static const struct csicodec_cleaning none = {0, 0, 0, 0};
     int good = 1;
     for (size_t i = 0; i < sizeof states / sizeof states[0]; i++) {

@@ -18,8 +18,8 @@
 #include "csicodec_names.h"
 
 /* The version of this header. csicodec_version() returns the library's, which must be the same number. */
-#define CSICODEC_VERSION "1.25.0"
-#define CSICODEC_VERSION_NUMBER 12500
+#define CSICODEC_VERSION "1.26.0"
+#define CSICODEC_VERSION_NUMBER 12600
 
 #ifdef __cplusplus
 extern "C" {
@@ -343,7 +343,7 @@ struct csicodec_stripped csicodec_compact_whole(uint32_t semicolons, const uint8
 struct csicodec_cleaning {
     /* enum csicodec_filter_mode. */
     uint32_t mode;
-    /* 1 if a title of tmux or screen (ESC k) is open, otherwise 0. */
+    /* How text is read: 1 if a title of tmux or screen (ESC k) is open, and more if graphic sets were designated or shifted in. */
     uint32_t titled;
     /* 1 if a style is open, which needs a reset at the end, otherwise 0. */
     uint32_t styled;
@@ -390,7 +390,8 @@ struct csicodec_cleaned csicodec_strip_step(const struct csicodec_cleaning *stat
                                             size_t room);
 
 /* A step of csicodec_clean_with without links, as csicodec_strip_step, but its text may be longer. Pass the same depth in each step; for
- * an unknown depth the status is CSICODEC_BAD_STATE. There are no steps with links, whose addresses would have to be kept between two steps. */
+ * an unknown depth the status is CSICODEC_BAD_STATE. There are no steps with links, whose addresses would have to be kept between two steps.
+ * Nor does the state have a place for the styles that DECSC saves: DECRC brings them back in csicodec_clean_with, and not here. */
 struct csicodec_cleaned csicodec_clean_step(uint32_t depth, const struct csicodec_cleaning *state, const uint8_t *bytes, size_t len,
                                             uint8_t *out, size_t room);
 

@@ -10,16 +10,21 @@
  *     if (csicodec_finish_lines(&lines, write_out, stdout) != CSICODEC_OK) return 3;
  *
  * What is written is what the call gives for the whole stream, however it is cut into pieces. Behind a newline of text outside of a title
- * nothing is left of a line but how further characters look, so that whole lines are written by themselves, behind the sequence that sets
- * this. Where a place is saved or insert mode has begun, that is left too, and what follows is held up to a reset or the end. With links, or
+ * nothing is left of a line but how further characters look and the graphic sets, so that whole lines are written by themselves, behind the
+ * sequences that set these. Where a place is saved or insert mode has begun, that is left too, and what follows is held up to a reset or the end. With links, or
  * without overwriting, all is held up to the end. The room for what is held is the caller's, and so is the limit. */
 #ifndef CSICODEC_LINES_H
 #define CSICODEC_LINES_H
 
 #include <string.h>
 
-/* How much of the room for what is held is for the sequence that sets how characters look. */
+/* How much of the room for what is held is for the sequences that set how characters look, and for those of graphic sets. */
 enum { CSICODEC_LOOK = 512 };
+
+/* The graphic sets: the final bytes of what ESC ( and ESC ) designated, or 0, and whether SO shifted the second in. */
+struct csicodec_line_sets {
+    uint8_t g0, g1, is_shifted;
+};
 
 /* A stream that is written line by line. Between two calls the caller may put larger rooms in the place of `held` and `out`, as realloc does. */
 struct csicodec_lines {
@@ -47,6 +52,8 @@ struct csicodec_lines {
     size_t begin, look, end, spanned, whole, looked;
     /* Of lines that were written, how many bytes of sequences wait to be taken into the look; they stand in front of what waits. */
     size_t unsettled;
+    /* The sets at the front of what waits, behind the whole spans, and behind the whole lines. */
+    struct csicodec_line_sets sets, sets_behind, sets_whole;
     /* enum csicodec_filter_mode, behind the whole spans. */
     uint32_t mode;
     /* Whether what stands ahead of the page is written; lines are taken one by one; a title is open; a place is saved or insert mode has
@@ -126,27 +133,57 @@ static inline int csicodec_keeps(const uint8_t *bytes, size_t len, int keeps) {
     return keeps;
 }
 
-/* Notes that lines are whole up to here. */
-static inline void csicodec_line_ends(struct csicodec_lines *lines, size_t whole) {
+/* The sets behind a text: the last SO or SI counts. */
+static inline struct csicodec_line_sets csicodec_shifted(struct csicodec_line_sets sets, const uint8_t *bytes, size_t len) {
+    while (len && bytes[len - 1] != 0x0e && bytes[len - 1] != 0x0f) len--;
+    if (len) sets.is_shifted = bytes[len - 1] == 0x0e;
+    return sets;
+}
+
+/* The sets behind a sequence: SCS designates one, and RIS and DECSTR set all back. */
+static inline struct csicodec_line_sets csicodec_designated(struct csicodec_line_sets sets, const uint8_t *bytes, size_t len) {
+    if ((len == 2 && bytes[1] == 'c') || (len == 4 && !memcmp(bytes + 1, "[!p", 3))) memset(&sets, 0, sizeof sets);
+    if (len == 3 && bytes[1] == '(') sets.g0 = bytes[2];
+    if (len == 3 && bytes[1] == ')') sets.g1 = bytes[2];
+    return sets;
+}
+
+/* Puts what designates and shifts the sets in ahead of the look at the front of what waits; where it begins. */
+static inline size_t csicodec_put_sets(struct csicodec_lines *lines) {
+    struct csicodec_line_sets sets = lines->sets;
+    size_t from = lines->begin - lines->look;
+    if (sets.is_shifted) lines->held[--from] = 0x0e;
+    if (sets.g1 == '0' || sets.g1 == 'A') lines->held[--from] = sets.g1, lines->held[--from] = ')', lines->held[--from] = 0x1b;
+    if (sets.g0 == '0' || sets.g0 == 'A') lines->held[--from] = sets.g0, lines->held[--from] = '(', lines->held[--from] = 0x1b;
+    return from;
+}
+
+/* Notes that lines are whole up to here, and the sets there. */
+static inline void csicodec_line_ends(struct csicodec_lines *lines, size_t whole, struct csicodec_line_sets sets) {
     lines->whole = whole;
+    lines->sets_whole = sets;
     lines->within |= lines->behind;
     lines->behind = 0;
 }
 
 /* Goes on over a span of text of so many bytes; how many of them it used. */
 static inline size_t csicodec_span_of_text(struct csicodec_lines *lines, const uint8_t *bytes, size_t len) {
+    struct csicodec_line_sets before = lines->sets_behind;
     const uint8_t *newline;
     size_t last = len;
-    if (lines->is_title || lines->keeps) return len;
+    if (lines->is_title) return len;
+    lines->sets_behind = csicodec_shifted(before, bytes, len);
+    if (lines->keeps) return len;
     if (lines->by_one) {
         newline = (const uint8_t *)memchr(bytes, '\n', len);
         if (!newline) return len;
         last = (size_t)(newline - bytes) + 1;
-        csicodec_line_ends(lines, lines->spanned + last);
+        lines->sets_behind = csicodec_shifted(before, bytes, last);
+        csicodec_line_ends(lines, lines->spanned + last, lines->sets_behind);
         return last;
     }
     while (last && bytes[last - 1] != '\n') last--;
-    if (last) csicodec_line_ends(lines, lines->spanned + last);
+    if (last) csicodec_line_ends(lines, lines->spanned + last, csicodec_shifted(before, bytes, last));
     return len;
 }
 
@@ -155,6 +192,7 @@ static inline void csicodec_span_of_control(struct csicodec_lines *lines, uint32
     lines->is_title = kind == CSICODEC_SPAN_ESC && len == 2 && bytes[1] == 'k';
     if (lines->is_title || (kind != CSICODEC_SPAN_CSI && kind != CSICODEC_SPAN_ESC)) return;
     lines->keeps = csicodec_keeps(bytes, len, lines->keeps);
+    lines->sets_behind = csicodec_designated(lines->sets_behind, bytes, len);
     lines->behind = 1;
 }
 
@@ -184,6 +222,7 @@ static inline void csicodec_span_lines(struct csicodec_lines *lines) {
 /* Begins anew at the front of what waits, which is the beginning of a line. */
 static inline void csicodec_span_anew(struct csicodec_lines *lines) {
     lines->spanned = lines->whole = lines->begin;
+    lines->sets_behind = lines->sets_whole = lines->sets;
     lines->looked = 0;
     lines->mode = CSICODEC_FILTER_TEXT;
     lines->is_title = lines->keeps = lines->within = lines->behind = 0;
@@ -220,7 +259,7 @@ static inline int csicodec_settle(struct csicodec_lines *lines) {
     if (!csicodec_is_out(lines, text)) return 0;
     for (from = text.needed; from && lines->out[from - 1] != '\n';) from--;
     for (to = from; to < text.needed && lines->out[to] != 'X';) to++;
-    if (to - from >= CSICODEC_LOOK) return lines->status = CSICODEC_MEMORY, 0;
+    if (to - from >= CSICODEC_LOOK - 7) return lines->status = CSICODEC_MEMORY, 0;
     lines->look = to - from;
     memcpy(lines->held + lines->begin - lines->look, lines->out + from, lines->look);
     lines->unsettled = 0;
@@ -229,7 +268,7 @@ static inline int csicodec_settle(struct csicodec_lines *lines) {
 
 /* Writes the whole lines; whether it did. */
 static inline int csicodec_write_lines(struct csicodec_lines *lines, csicodec_writer *write, void *user) {
-    size_t from = lines->begin - lines->look;
+    size_t from = csicodec_put_sets(lines);
     struct csicodec_stripped text = csicodec_text_of_lines(lines, lines->held + from, lines->whole - from);
     if (text.status == CSICODEC_OK && text.needed > lines->out_room && !lines->by_one) {
         lines->by_one = 1;
@@ -239,8 +278,9 @@ static inline int csicodec_write_lines(struct csicodec_lines *lines, csicodec_wr
     if (!csicodec_is_out(lines, text)) return 0;
     write(user, lines->out, text.needed);
     if (lines->within) csicodec_gather(lines);
-    else memmove(lines->held + lines->whole - lines->look, lines->held + from, lines->look);
+    else memmove(lines->held + lines->whole - lines->look, lines->held + lines->begin - lines->look, lines->look);
     lines->begin = lines->whole;
+    lines->sets = lines->sets_whole;
     lines->within = 0;
     return csicodec_settle(lines);
 }
@@ -297,11 +337,12 @@ static inline uint32_t csicodec_finish_lines(struct csicodec_lines *lines, csico
     struct csicodec_stripped text;
     size_t from;
     if (!csicodec_go_on(lines, write, user)) return lines->status;
-    from = lines->begin - lines->look;
+    from = csicodec_put_sets(lines);
     text = csicodec_text_of_lines(lines, lines->held + from, lines->end - from);
     if (!csicodec_is_out(lines, text)) return lines->status;
     write(user, lines->out, text.needed);
     lines->look = 0;
+    memset(&lines->sets, 0, sizeof lines->sets);
     lines->begin = lines->end = CSICODEC_LOOK;
     csicodec_span_anew(lines);
     if (csicodec_write_around(lines, 1, write, user)) lines->is_begun = lines->by_one = 0;

@@ -24,6 +24,9 @@ function plainEnd(text, at = 0) {
     return PLAIN.lastIndex;
 }
 
+/** What designates a graphic set (SCS): behind it characters of ASCII may become others. */
+const DESIGNATES = /\x1b[()]/;
+
 /** Why bytes were refused, or that memory ran out. */
 export class CodecError extends Error {
     constructor(message, { status, start, at } = {}) {
@@ -197,9 +200,9 @@ class Library {
     /** A copy of it. */
     written(...how) { return this.passing(...how).slice(); }
 
-    /** A text that a call makes of a text. What is made of ASCII is ASCII. */
+    /** A text that a call makes of a text. What is made of ASCII is ASCII, where no other set is designated. */
     rewritten(text, needed, call, refused) {
-        const isAscii = this.takeText(text) === text.length, length = this.called(text.length * 9 + 64, needed, call, refused);
+        const isAscii = this.takeText(text) === text.length && !DESIGNATES.test(text), length = this.called(text.length * 9 + 64, needed, call, refused);
         const from = this.output.place, to = from + length;
         if (length <= 16 || !this.ofNode) return textOf(this.memory, from, to);
         return isAscii ? this.ofNode.latin1Slice(from, to) : this.ofNode.utf8Slice(from, to);
@@ -275,7 +278,7 @@ class Cleaner extends Steps {
 
     begin() { super.begin(); this.state = new Uint8Array(16); }
 
-    /** Whether a control string or a title is open. */
+    /** Whether a control string or a title is open, or a graphic set isn't ASCII. */
     get isOpen() { return this.state[0] + this.state[4] > 0; }
 
     step(library, bytes) {

@@ -317,11 +317,13 @@ export class OscReader {
 
 /** What may save the cursor's place or begin insert mode (DECSC, SCOSC, SM, DECSET 1048 and 1049), and what ends both (RIS, DECSTR). */
 const KEEPS = /^\x1b(?:7|\[[0-9;:]*[sh]|\[\?[0-9;]*104[89][0-9;]*h)$/, RESETS = ['\x1bc', '\x1b[!p'];
+/** SO and SI, which shift G1 and G0 in, and what designates these (SCS): with a set other than ASCII, or with it. */
+const SHIFTS = [0x0e, 0x0f], DESIGNATES = /^\x1b([()])([^])$/, NO_SETS = { '(': '', ')': '', '\x0e': '' };
 const latin = new TextDecoder('latin1');
 
 /** Writes the lines of a stream, each as it stands when it ends, as they come. Behind a newline of text outside of a title nothing is left of a line
- * but how further characters look (`NewLine` of csicodec_overwrite's Line.antt), so that whole lines can be written by themselves, behind the sequence
- * that sets this. Where a place is saved or insert mode has begun, that is left too, and what follows is held up to a reset or the end. */
+ * but how further characters look (`NewLine` of csicodec_overwrite's Line.antt) and the graphic sets, so that whole lines can be written by themselves,
+ * behind the sequences that set these. Where a place is saved or insert mode has begun, that is left too, and what follows is held up to a reset or the end. */
 class Lines {
     /** `write` makes what is written of the bytes of whole lines, and `around` is what stands ahead of all and behind it. */
     constructor(codec, write, around = [new Uint8Array(), new Uint8Array()]) {
@@ -330,7 +332,7 @@ class Lines {
     }
 
     begin() {
-        Object.assign(this, { look: new Uint8Array(), held: [], rest: new Uint8Array(), controls: [], mode: 0, isTitle: false, isBegun: false, keeps: false });
+        Object.assign(this, { look: new Uint8Array(), held: [], rest: new Uint8Array(), controls: [], mode: 0, isTitle: false, isBegun: false, keeps: false, sets: NO_SETS });
     }
 
     /** What becomes of the next bytes, as far as they are whole lines, in pieces. */
@@ -344,7 +346,7 @@ class Lines {
                 this.controls.push(...controls.map(({ piece }) => piece));
                 continue;
             }
-            parts.push(this.write(joined([this.look, ...this.held, bytes.subarray(0, cut)])));
+            parts.push(this.write(joined([this.#sets(), this.look, ...this.held, bytes.subarray(0, cut)])));
             this.#look([...this.controls, ...controls.filter(({ at }) => at < cut).map(({ piece }) => piece)]);
             this.held = [bytes.slice(cut, used)];
             this.controls = controls.filter(({ at }) => at >= cut).map(({ piece }) => piece);
@@ -353,7 +355,7 @@ class Lines {
     }
 
     finish() {
-        const end = joined([...this.#ahead(), this.write(joined([this.look, ...this.held, this.rest])), this.around[1]]);
+        const end = joined([...this.#ahead(), this.write(joined([this.#sets(), this.look, ...this.held, this.rest])), this.around[1]]);
         this.begin();
         return end;
     }
@@ -365,7 +367,7 @@ class Lines {
     }
 
     /** How many bytes are in whole spans, and how many of them end with the last newline that ends a line; appends the sequences that can set how
-     * characters look. */
+     * characters look or graphic sets, and SO and SI. */
     #cut(bytes, controls) {
         let used = 0, cut = 0;
         this.codec.guarded(library => {
@@ -382,8 +384,9 @@ class Lines {
                         const text = latin.decode(piece);
                         this.keeps = !RESETS.includes(text) && (this.keeps || KEEPS.test(text));
                     }
-                } else if (!this.isTitle && !this.keeps && piece.includes(10)) {
-                    cut = used + piece.lastIndexOf(10) + 1;
+                } else if (!this.isTitle) {
+                    if (SHIFTS.some(byte => piece.includes(byte))) piece.forEach((byte, at) => SHIFTS.includes(byte) && controls.push({ at: used + at, piece: Uint8Array.of(byte) }));
+                    if (!this.keeps && piece.includes(10)) cut = used + piece.lastIndexOf(10) + 1;
                 }
                 this.mode = library.told(8);
                 used += piece.length;
@@ -392,9 +395,24 @@ class Lines {
         return { used, cut };
     }
 
-    /** Behind these sequences: the one with which the library writes how a character looks. */
+    /** What designates graphic sets other than ASCII, and shifts G1 in. */
+    #sets() {
+        return bytesOf(Object.values(this.sets).join(''));
+    }
+
+    /** The sets behind one of these. */
+    #behind(text) {
+        const [, by, set] = DESIGNATES.exec(text) ?? [];
+        if (RESETS.includes(text)) return NO_SETS;
+        if (by) return { ...this.sets, [by]: '0A'.includes(set) ? text : '' };
+        if (text === '\x0e' || text === '\x0f') return { ...this.sets, '\x0e': text === '\x0e' ? text : '' };
+        return this.sets;
+    }
+
+    /** Behind these sequences: the one with which the library writes how a character looks, and the sets. */
     #look(controls) {
         if (!controls.length) return;
+        for (const piece of controls) this.sets = this.#behind(latin.decode(piece));
         const shown = this.codec.overwrite(joined([this.look, ...controls, Uint8Array.of(10, 0x58)]), { styles: true });
         this.look = shown.slice(shown.lastIndexOf(10) + 1, shown.lastIndexOf(0x58));
     }

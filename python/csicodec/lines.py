@@ -11,17 +11,20 @@ from .text import html, overwrite
 
 #: How many bytes are looked at together, at most.
 _PIECE = 65536
-#: Sequences that can set how characters look, with the places where they stand.
+#: Sequences that can set how characters look or graphic sets, and SO and SI, with the places where they stand.
 _Sequences = List[Tuple[int, bytes]]
 #: What may save the cursor's place or begin insert mode (DECSC, SCOSC, SM, DECSET 1048 and 1049), and what ends both (RIS, DECSTR).
 _KEEPS = re.compile(rb"\x1b(?:7|\[[0-9;:]*[sh]|\[\?[0-9;]*104[89][0-9;]*h)")
 _RESETS = (b"\x1bc", b"\x1b[!p")
+#: SO and SI, which shift G1 and G0 in, and what designates these (SCS).
+_SHIFTS = re.compile(rb"[\x0e\x0f]")
+_DESIGNATES = re.compile(rb"\x1b([()])(.)", re.DOTALL)
 
 
 class _Lines:
     """Writes the lines of a stream, each as it stands when it ends. Behind a newline of text outside of a title nothing is left of a line but how
-    further characters look (`NewLine` of csicodec_overwrite's Line.antt), so that whole lines can be written by themselves, behind the
-    sequence that sets this. Where a place is saved or insert mode has begun, that is left too, and what follows is held up to a reset or the end.
+    further characters look (`NewLine` of csicodec_overwrite's Line.antt) and the graphic sets, so that whole lines can be written by
+    themselves, behind the sequences that set these. Where a place is saved or insert mode has begun, that is left too, and what follows is held up to a reset or the end.
     """
 
     #: What stands ahead of all lines, and behind them.
@@ -30,6 +33,7 @@ class _Lines:
     def _begin(self) -> None:
         self._look, self._rest, self._mode, self._is_begun = b"", b"", 0, False
         self._is_title = self._keeps = False
+        self._sets = {b"(": b"", b")": b"", b"\x0e": b""}
         self._held: List[bytes] = []
         self._sequences: List[bytes] = []
 
@@ -39,7 +43,7 @@ class _Lines:
 
     def __copy__(self) -> _Lines:
         other = object.__new__(type(self))
-        vars(other).update(vars(self), _held=list(self._held), _sequences=list(self._sequences))
+        vars(other).update(vars(self), _held=list(self._held), _sequences=list(self._sequences), _sets=dict(self._sets))
         return other
 
     def feed(self, data: Data) -> bytes:
@@ -49,7 +53,7 @@ class _Lines:
 
     def finish(self) -> bytes:
         """The last line, and what stands behind all lines."""
-        out = self._first() + self._write(b"".join([self._look, *self._held, self._rest])) + self._behind
+        out = self._first() + self._write(b"".join([*self._sets.values(), self._look, *self._held, self._rest])) + self._behind
         self._begin()
         return out
 
@@ -65,7 +69,7 @@ class _Lines:
             self._held.append(held[:used])
             self._sequences += [it for _, it in sequences]
             return b""
-        out = self._write(b"".join([self._look, *self._held, held[:cut]]))
+        out = self._write(b"".join([*self._sets.values(), self._look, *self._held, held[:cut]]))
         self._set_look([*self._sequences, *(it for at, it in sequences if at < cut)])
         self._held = [held[cut:used]]
         self._sequences = [it for at, it in sequences if at >= cut]
@@ -85,13 +89,26 @@ class _Lines:
                 if span.kind in (SpanKind.Csi, SpanKind.Esc) and not self._is_title:
                     sequences.append((used, held[used:end]))
                     self._keeps = held[used:end] not in _RESETS and (self._keeps or bool(_KEEPS.fullmatch(held, used, end)))
-            elif not self._is_title and not self._keeps:
-                cut = held.rfind(b"\n", used, end) + 1 or cut
+            elif not self._is_title:
+                sequences += [(it.start(), it[0]) for it in _SHIFTS.finditer(held, used, end)]
+                if not self._keeps:
+                    cut = held.rfind(b"\n", used, end) + 1 or cut
             self._mode, used = span.mode, end
         return used, cut, sequences
 
+    def _set_sets(self, sequences: List[bytes]) -> None:
+        """Behind these sequences: what designates graphic sets other than ASCII, and shifts G1 in."""
+        for it in sequences:
+            if it in _RESETS:
+                self._sets = dict.fromkeys(self._sets, b"")
+            elif found := _DESIGNATES.fullmatch(it):
+                self._sets[found[1]] = it if found[2] in (b"0", b"A") else b""
+            elif it in (b"\x0e", b"\x0f"):
+                self._sets[b"\x0e"] = it if it == b"\x0e" else b""
+
     def _set_look(self, sequences: List[bytes]) -> None:
         """Behind these sequences: the one with which the library writes how a character looks."""
+        self._set_sets(sequences)
         if sequences:
             shown = overwrite(b"".join([self._look, *sequences, b"\nX"]), styles=True)
             self._look = shown[shown.rfind(b"\n") + 1 : shown.rfind(b"X")]

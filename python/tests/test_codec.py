@@ -282,11 +282,14 @@ class Codec(unittest.TestCase):
         self.assertEqual(csicodec.strip("é\x1b[1m€"), "é€")
         self.assertEqual(csicodec.strip(b"\xff"), b"\xef\xbf\xbd")
         self.assertEqual(csicodec.strip(""), "")
+        for made in csicodec.strip, csicodec.clean, csicodec.overwrite:
+            self.assertEqual(made("\x1b(0lqk\x1b(Bq"), "┌─┐q")
         self.assertEqual(csicodec.clean("\x1b]8;;http://a.b\x1b\\x\x1b]8;;\x1b\\", links=True), "\x1b]8;;http://a.b\x1b\\x\x1b]8;;\x1b\\")
 
     def test_text_that_grows(self):
         for size in [1, 5000, 6000, 200000]:
             self.assertEqual(csicodec.strip(b"\xff" * size), b"\xef\xbf\xbd" * size)
+            self.assertEqual(csicodec.strip("\x1b(0" + "q" * size), "─" * size)
             self.assertEqual(csicodec.clean(b"\x1b[1m\xff" * size).count(b"\xef\xbf\xbd"), size)
 
     def test_what_the_program_writes(self):
@@ -321,7 +324,7 @@ class Codec(unittest.TestCase):
             ]:
                 self.assertEqual(b"".join(it.feed(stream[at : at + 7]) for at in range(0, len(stream), 7)) + it.finish(), whole)
         bits = ["a", "é", "\n", "\n", "\r", "\x1b[1m", "\x1b[38;5;200;4m", "\x1b[m", "\x1b[8m", "\x1bc", "\x1bkt", "\x1b\\", "\x1b]0;t\n", "\a", "\x1b[3\n1m", "\x1b[K"]
-        bits += ["\x1b[2C", "\x1bM", "\x1b7", "\x1b8", "\x1b[", "\x1bP\n", "\t", "\x18", "\x0e", "\x1b(0", "\x1b[5;7H", "\x1b[2"]
+        bits += ["\x1b[2C", "\x1bM", "\x1b7", "\x1b8", "\x1b[", "\x1bP\n", "\t", "\x18", "\x0e", "\x0f", "\x1b(0", "\x1b(B", "\x1b)0", "\x1b)A", "\x1b[!p", "q", "\x1b[5;7H", "\x1b[2"]
         drawn = random.Random(1)
         for _ in range(2000):
             stream, size = "".join(drawn.choices(bits, k=drawn.randrange(3, 28))).encode(), drawn.randrange(1, 9)

@@ -57,13 +57,54 @@ fn keeps(sequence: &[u8]) -> Option<bool> {
     }
 }
 
+/// The graphic sets: the final bytes of what `ESC (` and `ESC )` designated, or 0, and whether SO shifted the second in.
+#[derive(Clone, Copy, Debug, Default)]
+struct Sets {
+    g0: u8,
+    g1: u8,
+    is_shifted: bool,
+}
+
+impl Sets {
+    /// The sets behind a text: the last SO or SI counts.
+    fn shifted(self, text: &[u8]) -> Self {
+        let shift = text.iter().rfind(|byte| matches!(byte, 0x0e | 0x0f));
+        let is_shifted = shift.map_or(self.is_shifted, |byte| *byte == 0x0e);
+        Sets { is_shifted, ..self }
+    }
+
+    /// The sets behind a sequence: SCS designates one, and RIS and DECSTR set all back.
+    fn designated(self, sequence: &[u8]) -> Self {
+        match sequence {
+            b"\x1bc" | b"\x1b[!p" => Sets::default(),
+            [_, b'(', g0] => Sets { g0: *g0, ..self },
+            [_, b')', g1] => Sets { g1: *g1, ..self },
+            _ => self,
+        }
+    }
+
+    /// What designates the sets and shifts them in.
+    fn bytes(self) -> Vec<u8> {
+        let mut bytes = Vec::new();
+        for (set, by) in [(self.g0, b'('), (self.g1, b')')] {
+            if matches!(set, b'0' | b'A') {
+                bytes.extend_from_slice(&[0x1b, by, set]);
+            }
+        }
+        if self.is_shifted {
+            bytes.push(0x0e);
+        }
+        bytes
+    }
+}
+
 /// Writes a stream of untrusted text as it comes as a page of HTML, or as its lines, each as it stands when it ends. It holds a line, and, with
 /// `links` or `no_overwrite`, everything. The pushed slices and the end append what [`Markup::html`](crate::Markup::html),
 /// [`overwrite`](crate::overwrite) or [`overwrite_styled`](crate::overwrite_styled) gives for the whole text.
 ///
-/// Behind a newline of text outside of a title nothing is left of a line but how further characters look, so that whole lines can be written by
-/// themselves, behind the sequence that sets this. Where a place is saved or insert mode has begun, that is left too, and what follows is held up to a
-/// reset or the end.
+/// Behind a newline of text outside of a title nothing is left of a line but how further characters look and the graphic sets, so that whole lines
+/// can be written by themselves, behind the sequences that set these. Where a place is saved or insert mode has begun, that is left too, and what
+/// follows is held up to a reset or the end.
 ///
 /// ```
 /// use csicodec::Lines;
@@ -83,6 +124,10 @@ pub struct Lines {
     is_begun: bool,
     /// The sequence that sets how characters look at the front of what is held.
     look: Vec<u8>,
+    /// The sets there, behind the whole spans, and behind the whole lines.
+    sets: Sets,
+    sets_behind: Sets,
+    sets_whole: Sets,
     /// The bytes that aren't written, of which so many are in whole spans, and so many, at the front, in whole lines.
     held: Vec<u8>,
     spanned: usize,
@@ -102,6 +147,9 @@ impl Lines {
             form,
             is_begun: false,
             look: Vec::new(),
+            sets: Sets::default(),
+            sets_behind: Sets::default(),
+            sets_whole: Sets::default(),
             held: Vec::new(),
             spanned: 0,
             whole: 0,
@@ -153,9 +201,9 @@ impl Lines {
         Ok(())
     }
 
-    /// So many of the bytes, behind what sets how they look.
+    /// So many of the bytes, behind what sets their sets and how they look.
     fn seen(&self, len: usize) -> Vec<u8> {
-        [&self.look[..], &self.held[..len]].concat()
+        [&self.sets.bytes()[..], &self.look, &self.held[..len]].concat()
     }
 
     /// Goes on over the spans that are whole now.
@@ -172,11 +220,16 @@ impl Lines {
                 if let (Some(at), false) = (newline, self.is_title || self.keeps) {
                     self.whole = self.spanned + at + 1;
                     self.within.append(&mut self.behind);
+                    self.sets_whole = self.sets_behind.shifted(&bytes[..=at]);
+                }
+                if !self.is_title {
+                    self.sets_behind = self.sets_behind.shifted(bytes);
                 }
             } else {
                 self.is_title = span.kind == 2 && bytes == b"\x1bk";
                 if matches!(span.kind, 1 | 2) && !self.is_title {
                     self.keeps = keeps(bytes).unwrap_or(self.keeps);
+                    self.sets_behind = self.sets_behind.designated(bytes);
                     self.behind.extend_from_slice(bytes);
                 }
             }
@@ -193,6 +246,7 @@ impl Lines {
         };
         let lines = self.form.of(&self.seen(self.whole))?;
         self.look = self.look_behind()?;
+        self.sets = self.sets_whole;
         self.within.clear();
         self.held.drain(..self.whole);
         self.spanned -= self.whole;

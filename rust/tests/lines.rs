@@ -4,8 +4,9 @@ use csicodec::{Error, Lines, Markup, Palette, html, overwrite, overwrite_styled}
 use std::io::Write;
 
 /// What lines are made of, and what begins and ends what is no line.
-const BITS: [&str; 30] = [
+const BITS: [&str; 36] = [
     "a",
+    "q",
     "\u{e9}",
     "\n",
     "\n",
@@ -31,7 +32,12 @@ const BITS: [&str; 30] = [
     "\t",
     "\x18",
     "\x0e",
+    "\x0f",
     "\x1b(0",
+    "\x1b(B",
+    "\x1b)0",
+    "\x1b)A",
+    "\x1b[!p",
     "\x1b[5;7H",
     "\x1b[2",
     "\x1b]8;;http://a.b\x07",

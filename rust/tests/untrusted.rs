@@ -4,7 +4,7 @@ use csicodec::{Cleaner, Depth, Error, Filter, Passing, clean, clean_with, strip}
 use std::io::{self, Read, Write};
 use std::num::NonZeroUsize;
 
-const STREAM: &[u8] = b"a\xc3\xa9\x1b[01;38;2;250;5;5mred\x1b]8;;u\x07\x1bk\xc3t\x1b\\\xe2\x82\x1b[3m\xac\xf0\x9f\x98\x80\xf0\x9f\x1b]0;t\x1b[1\x08;2m\xe2\x82\x1b[0m\x1b[8mh\x1b[4m\xf0\x9f\x98\x1b[2";
+const STREAM: &[u8] = b"a\xc3\xa9\x1b[01;38;2;250;5;5mred\x1b]8;;u\x07\x1bk\xc3t\x1b\\\xe2\x82\x1b[3m\xac\xf0\x9f\x98\x80\xf0\x9f\x1b]0;t\x1b[1\x08;2m\xe2\x82\x1b[0m\x1b[8mh\x1b[4m\xf0\x9f\x98\x1b(0q\x1b)A#\x0e#\x1b[!pq#\x1b[2";
 
 fn cleaned(mut cleaner: Cleaner, parts: &[&[u8]]) -> String {
     let mut out = Vec::new();
@@ -42,6 +42,13 @@ fn every_cut() {
     for (cleaner, text) in wanted {
         assert_eq!(cleaned(cleaner, &bytes), text);
     }
+}
+
+#[test]
+fn lines_are_drawn() {
+    assert_eq!(strip(b"\x1b(0lqk\x1b(Bq").unwrap(), "┌─┐q");
+    let parts: [&[u8]; 4] = [b"\x1b", b"(0l", b"qk\x1b)B\x0e", b"q"];
+    assert_eq!(cleaned(Cleaner::clean(Depth::Full), &parts), "┌─┐q");
 }
 
 #[test]

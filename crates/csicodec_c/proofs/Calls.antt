@@ -1,16 +1,18 @@
 -- Calls that clean untrusted text step by step, in turn.
 use Rattle.std.proofs.Common.{◌≡◌, ◌≤◌, ℕ, Bool, true, false, cond, List, [], ◌∷◌, ◌++◌, length, take, drop, refl, sym, ap, subst, ◌∙◌, arith}
 use Rattle.std.proofs.Math.Seq.{take-append_seam}
-use Rattle.std.specs.{Prelude.◌==◌, List.concat}
+use Rattle.std.specs.{Prelude.◌==◌, Prelude.◌+◌, Prelude.◌*◌, Prelude.◌/◌, Prelude.◌%◌, List.concat}
 use Rattle.csicodec_spans.specs.declared.table.Mode.{Mode}
-use Rattle.csicodec_looks.specs.declared.xterm.Depth.{Depth}
-use Rattle.csicodec_clean.specs.{declared.step.Pause.Pause, Cleaned.RuleOf, Cleaned.Strips, Cleaned.drops, Cleaned.longest, Steps.AreStepped, Steps.Steps}
-use Rattle.csicodec_clean.specs.{Steps.bare, Steps.beginning, Steps.ending, Styled.StylesIn, Styled.resumed, Styled.keeps, Styled.without_links}
+use Rattle.csicodec_looks.specs.{declared.sets.Set.Set, declared.xterm.Depth.Depth}
+use Rattle.csicodec_clean.specs.{declared.reading.Reading.Reading, declared.step.Pause.Pause, Cleaned.RuleOf, Cleaned.Strips, Cleaned.drops, Cleaned.longest}
+use Rattle.csicodec_clean.specs.{Steps.AreStepped, Steps.Steps, Steps.bare, Steps.beginning, Steps.ending, Styled.StylesIn, Styled.resumed, Styled.keeps}
+use Rattle.csicodec_clean.specs.{Styled.in_steps}
 use Rattle.csicodec_clean.proofs.Streams.{cleaned_steps, stripped_steps}
-use Rattle.csicodec_c.specs.{declared.step.Cleaned.Cleaned, declared.step.Cleaning.Cleaning, declared.strip.Stripped.Stripped, Filter.mode_number}
-use Rattle.csicodec_c.specs.{Step.AreCalls, Step.IsCleanStep, Step.IsEnd, Step.IsStep, Step.IsStripStep, Step.numbers, Step.zeros, Strip.bit}
+use Rattle.csicodec_c.specs.Step.{AreCalls, IsCleanStep, IsEnd, IsStep, IsStripStep, numbers, reading_number, set_number, zeros}
+use Rattle.csicodec_c.specs.{declared.step.Cleaned.Cleaned, declared.step.Cleaning.Cleaning, declared.strip.Stripped.Stripped, Filter.mode_number, Strip.bit}
 use Rattle.csicodec_c.specs.{Strip.depth_number}
 use Rattle.csicodec_structs.specs.Room.{Fills}
+use Rattle.csicodec_looks.specs.declared.sets.Set.TheVariants as sets
 
 -- ---- numbers are of one state
 
@@ -33,11 +35,55 @@ depth_back Depth.Full = refl
 depth_back Depth.Palette = refl
 depth_back Depth.Ansi = refl
 
+bit_low : (b : Bool) → bit b ≤ 1
+bit_low true = omega arith
+bit_low false = omega arith
+
+abbrev set_of : ℕ → Set
+set_of n = cond (n == 0) sets.Ascii (cond (n == 1) sets.Graphics sets.British)
+
+set_back : (s : Set) → set_of (set_number s) ≡ s
+set_back sets.Ascii = refl
+set_back other = refl
+
+set_low : (s : Set) → set_number s ≤ 2
+set_low sets.Ascii = omega arith
+set_low other = omega arith
+
+abbrev reading_of : ℕ → Reading
+reading_of n = record { titled = n % 2 == 1; sets = record { g0 = set_of (n / 4 % 4); g1 = set_of (n / 16); shifted = n / 2 % 2 == 1 } }
+
+module _ (t u g h n : ℕ) (small : t ≤ 1) (low : u ≤ 1) (few : g ≤ 2) (e : n ≡ t + (2 * u + (4 * g + 16 * h))) where
+  title_part : n % 2 ≡ t
+  title_part = omega arith
+
+  shift_part : n / 2 % 2 ≡ u
+  shift_part = omega arith
+
+  g0_part : n / 4 % 4 ≡ g
+  g0_part = omega arith
+
+  g1_part : n / 16 ≡ h
+  g1_part = omega arith
+
+reading_back : (r : Reading) → reading_of (reading_number r) ≡ r
+reading_back r =
+    let t = bit r.titled in
+    let u = bit r.sets.shifted in
+    let g = set_number r.sets.g0 in
+    let h = set_number r.sets.g1 in
+    let n = reading_number r in
+    let small = bit_low r.titled in
+    let low = bit_low r.sets.shifted in
+    let few = set_low r.sets.g0 in
+    rw (title_part t u g h n small low few refl, shift_part t u g h n small low few refl, g0_part t u g h n small low few refl, g1_part t u g h n small low few refl)
+    rw (bit_back r.titled, bit_back r.sets.shifted, set_back r.sets.g0, set_back r.sets.g1) refl
+
 abbrev pause_of : Cleaning → Pause
-pause_of c = record { mode = mode_of c.mode; titled = c.titled == 1; styled = c.styled == 1; held = c.held }
+pause_of c = record { mode = mode_of c.mode; reading = reading_of c.titled; styled = c.styled == 1; held = c.held }
 
 pause_back : (p : Pause) → pause_of (numbers p) ≡ p
-pause_back p = rw (mode_back p.mode, bit_back p.titled, bit_back p.styled) refl
+pause_back p = rw (mode_back p.mode, reading_back p.reading, bit_back p.styled) refl
 
 same_pause : (state : Cleaning) (p q : Pause) → state ≡ numbers p → state ≡ numbers q → p ≡ q
 same_pause state p q e f = sym (pause_back p) ∙ ap pause_of (sym e ∙ f) ∙ pause_back q
@@ -92,7 +138,7 @@ in_depth d s b o n a (other, same, step) =
 
 pub cleaned_calls : (d : Depth) (chunks : List (List ℕ)) (all left old new : List ℕ) (last : Cleaning) (answer : Stripped)
     → AreCalls (IsCleanStep (depth_number d)) zeros [] chunks all last left → IsEnd last left old new answer
-    → answer.needed ≤ length old → StylesIn (without_links d) (concat chunks) (all ++ take answer.needed new)
+    → answer.needed ≤ length old → StylesIn (in_steps d) (concat chunks) (all ++ take answer.needed new)
 cleaned_calls d chunks all left old new last answer calls end room =
     let (q, is, stepped) = calls_stepped keeps (resumed d) (IsCleanStep (depth_number d)) (in_depth d) chunks zeros beginning [] all last left refl calls in
-    subst (λ (t : List ℕ). StylesIn (without_links d) (concat chunks) (all ++ t)) (sym (ended last left old new answer q is end room)) (cleaned_steps d chunks all left q stepped)
+    subst (λ (t : List ℕ). StylesIn (in_steps d) (concat chunks) (all ++ t)) (sym (ended last left old new answer q is end room)) (cleaned_steps d chunks all left q stepped)

@@ -1,14 +1,25 @@
 -- What the calls that clean untrusted text step by step answer a C program.
-use Rattle.std.specs.Prelude.{ℕ, ◌≡◌, ◌≤◌, Bool, List, [], ◌∷◌, ◌++◌, length, take, drop}
-use Rattle.csicodec_looks.specs.declared.xterm.Depth.{Depth}
-use Rattle.csicodec_clean.specs.{declared.step.Pause.Pause, Cleaned.RuleOf, Cleaned.drops, Steps.Steps, Steps.bare, Steps.ending, Styled.resumed, Styled.keeps}
+use Rattle.std.specs.Prelude.{ℕ, ◌≡◌, ◌≤◌, ◌+◌, ◌*◌, Bool, List, [], ◌∷◌, ◌++◌, length, take, drop}
+use Rattle.csicodec_looks.specs.{declared.sets.Set.Set, declared.xterm.Depth.Depth}
+use Rattle.csicodec_clean.specs.{declared.reading.Reading.Reading, declared.step.Pause.Pause, Cleaned.RuleOf, Cleaned.drops, Steps.Steps, Steps.bare}
+use Rattle.csicodec_clean.specs.{Steps.ending, Styled.resumed, Styled.keeps}
 use Rattle.csicodec_c.specs.{declared.step.Cleaned.Cleaned, declared.step.Cleaning.Cleaning, declared.strip.Stripped.Stripped, Filter.mode_number, Strip.Puts}
 use Rattle.csicodec_c.specs.{Strip.bit, Strip.depth_number}
 use Rattle.csicodec_structs.specs.{Room.Fills, Status.status_number, declared.status.Status.Status}
+use Rattle.csicodec_looks.specs.declared.sets.Set.TheVariants as set
+
+-- graphic sets, and how text is read, as one number: a title is 1, what is shifted in 2, G0 4 and G1 16 times
+abbrev pub set_number : Set → ℕ
+set_number set.Ascii = 0
+set_number set.Graphics = 1
+set_number set.British = 2
+
+abbrev pub reading_number : Reading → ℕ
+reading_number r = bit r.titled + (2 * bit r.sets.shifted + (4 * set_number r.sets.g0 + 16 * set_number r.sets.g1))
 
 -- the numbers of a state
 abbrev pub numbers : Pause → Cleaning
-numbers p = record { mode = mode_number p.mode; titled = bit p.titled; styled = bit p.styled; held = p.held }
+numbers p = record { mode = mode_number p.mode; titled = reading_number p.reading; styled = bit p.styled; held = p.held }
 
 -- the numbers are of a state that these bytes can go on from: so many are there as are held, and those are 3 at most
 abbrev pub IsState : Cleaning → ℕ → Pause → Type 0

@@ -55,3 +55,4 @@ IsCleaned bytes passing text = StylesIn passing bytes text × IsStyledIn passing
 -- what passes, by its numbers
 abbrev pub IsPassing : ℕ → ℕ → Passing → Type 0
 IsPassing depth links passing = (depth ≡ depth_number passing.depth) × (links ≡ bit passing.links)
+    × (passing.restores ≡ true)

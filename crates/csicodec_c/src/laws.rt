@@ -1,7 +1,7 @@
 //! Laws of the definitions. Each is the contract of a function that does nothing.
 ghost use Rattle.std.specs.{Prelude.◌≤◌, Prelude.◌++◌, Prelude.ℕ, Prelude.List, Prelude.[], Prelude.length, Prelude.take, List.concat};
 ghost use Rattle.csicodec_looks.specs.declared.xterm.Depth.{Depth};
-ghost use Rattle.csicodec_clean.specs.{Cleaned.Strips, Cleaned.longest, Styled.StylesIn, Styled.without_links};
+ghost use Rattle.csicodec_clean.specs.{Cleaned.Strips, Cleaned.longest, Styled.StylesIn, Styled.in_steps};
 ghost use Rattle.csicodec_c.specs.{Step.AreCalls, Step.IsCleanStep, Step.IsEnd, Step.IsStripStep, Step.zeros, Strip.depth_number, declared.step.Cleaning.Cleaning};
 ghost use Rattle.csicodec_c.specs.{declared.strip.Stripped.Stripped};
 
@@ -16,5 +16,5 @@ pub fn any_steps()
         (last : Cleaning) (answer : Stripped)
         → AreCalls (IsCleanStep (depth_number d)) zeros [] chunks all last left
         → IsEnd last left old new answer → answer.needed ≤ length old
-        → StylesIn (without_links d) (concat chunks) (all ++ take answer.needed new) }
+        → StylesIn (in_steps d) (concat chunks) (all ++ take answer.needed new) }
 {}

@@ -1,12 +1,14 @@
 //! Untrusted text as it comes, by a state that the caller keeps.
-ghost use Rattle.std.specs.Prelude.{◌≡◌, ◌≤◌, ◌⊎◌, Bool, length, IfSome, IfNone};
-ghost use Rattle.csicodec_clean.specs.declared.step.Pause.{Pause};
-ghost use Rattle.csicodec_c.specs.Step.{IsBadDepth, IsBadState, IsCleanStep, IsEnd, IsState, IsStripStep, numbers, refused};
+ghost use Rattle.std.specs.Prelude.{◌≡◌, ◌↔◌, ◌≤◌, ◌⊎◌, Bool, Some, length, IfSome, IfNone};
+ghost use Rattle.csicodec_clean.specs.{declared.reading.Reading.Reading, declared.step.Pause.Pause};
+ghost use Rattle.csicodec_looks.specs.declared.sets.Set.{Set};
+ghost use Rattle.csicodec_c.specs.Step.{IsBadDepth, IsBadState, IsCleanStep, IsEnd, IsState, IsStripStep, numbers, reading_number, refused, set_number};
 ghost use Rattle.csicodec_c.specs.Strip.{IsRefused, bit, refused as nothing};
 
 use crate::filter::{mode_at, number_of};
 use crate::strip::{Stripped, bit_at, depth_at, put, refused as nothing};
-use csicodec_clean::{Pause, append_ending, clean_step, strip_step};
+use csicodec_clean::{Pause, Reading, Sets, append_ending, clean_step, strip_step};
+use csicodec_looks::Set;
 use csicodec_structs::{Status, fill};
 use std::alloc::Global;
 
@@ -16,7 +18,7 @@ use std::alloc::Global;
 pub struct Cleaning {
     /// What is open: the mode of a filter.
     pub mode: u32,
-    /// 1 where a title is open, of tmux and screen.
+    /// How text is read: 1 where a title is open, of tmux and screen, and more where graphic sets came.
     pub titled: u32,
     /// 1 where a style is open.
     pub styled: u32,
@@ -55,6 +57,39 @@ fn refused(why: Status) -> Cleaned
     }
 }
 
+/// The graphic set of a number.
+fn set_at(number: u32) -> Option<Set>
+    ensures { (set : Set) → (result ≡ Some set) ↔ (number ≡ set_number set) }
+{
+    match number {
+        0 => Some(Set::Ascii),
+        1 => Some(Set::Graphics),
+        2 => Some(Set::British),
+        _ => None,
+    }
+}
+
+/// How text is read, by its number.
+fn reading_at(number: u32) -> Option<Reading>
+    ensures some { IfSome result (λ reading. number ≡ reading_number reading) }
+    ensures none { IfNone result ((reading : Reading) → number ≡ reading_number reading → ⊥) }
+{
+    let titled = bit_at(number % 2)?;
+    let shifted = bit_at(number / 2 % 2)?;
+    let g0 = set_at(number / 4 % 4)?;
+    let g1 = set_at(number / 16)?;
+    let sets = Sets { g0, g1, shifted };
+    Some(Reading { titled, sets })
+}
+
+fn reading_number(reading: Reading) -> u32
+    ensures { result ≡ reading_number reading }
+{
+    let Reading { titled, sets } = reading;
+    u32::from(titled)
+        + (2 * u32::from(sets.shifted) + (4 * (sets.g0 as u32) + 16 * (sets.g1 as u32)))
+}
+
 /// The state of some numbers, where so many bytes come.
 fn pause_at(state: &Cleaning, len: usize) -> Option<Pause>
     ensures some { IfSome result (λ pause. IsState state.now len pause) }
@@ -66,7 +101,7 @@ fn pause_at(state: &Cleaning, len: usize) -> Option<Pause>
     }
     Some(Pause {
         mode: mode_at(state.mode)?,
-        titled: bit_at(state.titled)?,
+        reading: reading_at(state.titled)?,
         styled: bit_at(state.styled)?,
         held,
     })
@@ -78,7 +113,7 @@ fn numbers(pause: Pause) -> Cleaning
 {
     Cleaning {
         mode: number_of(pause.mode),
-        titled: u32::from(pause.titled),
+        titled: reading_number(pause.reading),
         styled: u32::from(pause.styled),
         held: pause.held as u32,
     }

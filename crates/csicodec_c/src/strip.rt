@@ -94,6 +94,7 @@ fn passing_at(depth: u32, links: u32) -> Option<Passing>
     Some(Passing {
         depth: depth_at(depth)?,
         links: bit_at(links)?,
+        restores: true,
     })
 }
 

@@ -1,12 +1,15 @@
 -- The parts of a stream, span by span, chunk by chunk and at a glance, and what was appended for them.
-use Rattle.std.proofs.Common.{◌≡◌, ◌<◌, ℕ, Bool, false, List, [], ◌∷◌, ◌++◌, length, refl, sym, ap, subst, ◌∙◌, ⊎_elim, append_assoc, append-nil, arith, flat_map, ◌-◌, ◌≤◌, zero, suc, true, length-append, length-take, take, drop, get_or, take-append-drop, take-take}
-use Rattle.csicodec_clean.proofs.Common.{AllByRecursion, concat, Kind, Mode, Part, part, bytes_of, IsSpan, IsUnsure, left_over, none_unsure, parts_more, parts_on, PassesOf, chars_as, run_as, IsRead, title_behind, title_open, read_as, with_titles, RuleOf, EndOf, Ends, longest, AreGiven, IsStep, AreSteps, Between, GoesBy, Takes, AreTaken, Closing, start_of, with_more, take-append_seam, drop-append_seam, nat_tests, lossy_chars-nil, CsiParam, Reads, Seq, Answer, Allows, IsSequence, opens, GoesTo, IsOther, Tells, bare_at}
-use Rattle.csicodec_clean.proofs.{Plain.read_more, Plain.read_none, Plain.shown_none, Plain.shown_on, Plain.shown_read, Plain.written_none, Titles.open_on}
-use Rattle.csicodec_clean.proofs.{Titles.titled, Titles.titles_on}
+use Rattle.std.proofs.Common.{not, cond, nat_lt, ◌+◌, length-drop, ◌≡◌, ◌≢◌, ◌<◌, slice_index, ℕ, Bool, false, List, [], ◌∷◌, ◌++◌, length, refl, sym, ap, subst, ◌∙◌, ⊎_elim, append_assoc, append-nil, arith, flat_map, ◌-◌, ◌≤◌, zero, suc, true, length-append, length-take, take, drop, get_or, take-append-drop, take-take}
+use Rattle.csicodec_clean.proofs.Common.{AllByRecursion, concat, Kind, Mode, Part, part, bytes_of, IsSpan, IsUnsure, left_over, none_unsure, parts_more, parts_on, PassesOf, chars_as, run_as, IsRead, read_as, as_read, first_reading, passed, read_behind, RuleOf, EndOf, Ends, longest, AreGiven, IsStep, AreSteps, Between, GoesBy, Takes, AreTaken, Closing, start_of, with_more, take-append_seam, drop-append_seam, nat_tests, lossy_chars-nil, CsiParam, Reads, Seq, Answer, Allows, IsSequence, opens, GoesTo, IsOther, Tells, bare_at, shown, cond_both}
+use Rattle.csicodec_clean.proofs.Plain.{read_more, read_none, shown_none, shown_on, shown_read, written_none, all_weaker}
+use Rattle.csicodec_clean.proofs.Drawn.{as_read_on, draws_one, draws_same, read_on, same_still, set_control, span_read}
 use Rattle.csicodec_spans.specs.{Parts.Cuts, Table.Anew, Table.Sequence, Table.ahead, Private.TableBy.stays}
 use Rattle.csicodec_spans.proofs.{Once.parts_join, Once.unsure_short, Once.one_alone, Apart.said, OneSpan.run_cut, Missed.cut_parts}
 use Rattle.csicodec_transform.specs.Transform.{Transforms}
-use Rattle.csicodec_clean.specs.Private.Steps.{IsAppended, BeginsWithEscape}
+use Rattle.csicodec_clean.specs.Private.Steps.{BeginsWithEscape, Draws, IsAppended, IsStill, is_drawn, unshifted}
+use Rattle.csicodec_clean.specs.{Sets.behind, Sets.behind_escape, Sets.drawn, Sets.drawn_text, Sets.in_use, Sets.is_decstr, Sets.shifted}
+use Rattle.csicodec_clean.specs.{declared.reading.Reading.Reading, declared.reading.Sets.Sets}
+use Rattle.csicodec_looks.specs.{Sets.char_in, declared.sets.Set.TheVariants.Ascii}
 
 pub unsure_few : (m : Mode) (bytes : List ℕ) → IsUnsure longest m bytes → length bytes < longest
 unsure_few m bytes unsure = ⊎_elim (λ few. few) (λ few. omega (arith, few)) (unsure_short longest m bytes unsure)
@@ -92,25 +95,25 @@ module _ {S : Type 0} (Gives : RuleOf S) where
     same = rw (e, shown_read Gives.writing run chars held read, written_none Gives.writing) (simp (append_assoc, append-nil));
   }
 
-  pub spanned : (k : Kind) (s : S) (run chars held bytes more : List ℕ) (ps : List Part) (after : S) (left : List ℕ) → IsSpan k bytes ps
-      → IsRead run chars held → IsAppended Gives k s held bytes more after left
+  pub spanned : (k : Kind) (sets : Sets) (s : S) (run chars held bytes more : List ℕ) (ps : List Part) (after : S) (left : List ℕ) → IsSpan k (drawn sets k bytes) ps
+      → IsRead run chars held → IsAppended Gives sets k s held bytes more after left
       → Spanned s run chars ps more after left
-  spanned Kind.Text s run chars held bytes more ps after left span read (now, later, e, same) = record {
+  spanned Kind.Text sets s run chars held bytes more ps after left span read (now, later, e, same) = record {
     text = [];
-    left = run ++ bytes;
+    left = run ++ drawn_text sets bytes;
     read = chars ++ now;
     steps = rw same (subst (λ (x : List ℕ). AreSteps Gives s run ps [] s (run ++ x)) span.joined (texts ps s run span.all));
-    is_read = read_more run held bytes left chars now read later.0;
+    is_read = read_more run held (drawn_text sets bytes) left chars now read later.0;
     same = ap (λ t. chars_as Gives.writing chars ++ t) e ∙ sym (shown_on Gives.writing chars now);
   }
-  spanned Kind.Csi s run chars held bytes more ps after left span read (own, gives, e, none) =
+  spanned Kind.Csi sets s run chars held bytes more ps after left span read (own, gives, e, none) =
       ended s run chars held ps own more after left read e none (only Kind.Csi bytes (run_as Gives.writing run ++ own) ps s after run span (own, gives, refl, refl))
-  spanned Kind.Esc s run chars held bytes more ps after left span read (own, gives, e, none) =
+  spanned Kind.Esc sets s run chars held bytes more ps after left span read (own, gives, e, none) =
       ended s run chars held ps own more after left read e none (only Kind.Esc bytes (run_as Gives.writing run ++ own) ps s after run span (own, gives, refl, refl))
-  spanned Kind.Str s run chars held bytes more ps after left span read (own, given, e, none) =
+  spanned Kind.Str sets s run chars held bytes more ps after left span read (own, given, e, none) =
       ended s run chars held ps own more after left read e none
       (parts_end Kind.Str (AreGiven Gives) given_on (λ s mid run bytes own g. (own, g, refl, refl)) ps s after run own span.some span.all (rw span.joined given))
-  spanned Kind.Other s run chars held bytes more ps after left span read (e, same, none) =
+  spanned Kind.Other sets s run chars held bytes more ps after left span read (e, same, none) =
       ended s run chars held ps [] more after left read (e ∙ sym (append-nil (run_as Gives.writing held))) none
       (parts_end Kind.Other (λ s bytes own after. (own ≡ []) × (after ≡ s)) (λ xs ys s after text h. ([], s, text, (refl, refl), h, refl))
       (λ s mid run bytes own h. (rw h.0 (append-nil (run_as Gives.writing run)), h.1, refl)) ps s after run [] span.some span.all (refl, same))
@@ -118,44 +121,44 @@ module _ {S : Type 0} (Gives : RuleOf S) where
   -- nothing yet
   pub goes_none : (limit : ℕ) (it : Between S) → GoesBy Gives limit it [] it
   goes_none limit it run chars read =
-      record { parts = []; text = []; left = run; read = chars; first = (refl, refl); titles = refl; steps = (refl, refl, refl); is_read = read; same = append-nil (chars_as Gives.writing chars) }
+      record { parts = []; text = []; left = run; read = chars; first = (refl, refl); reads = refl; steps = (refl, refl, refl); is_read = read; same = append-nil (chars_as Gives.writing chars) }
 
   -- and then more
   pub goes_then : (limit : ℕ) (old mid new : Between S) (one two : List ℕ) → GoesBy Gives limit old one mid → GoesBy Gives limit mid two new → GoesBy Gives limit old (one ++ two) new
   goes_then limit old mid new one two goes further run chars read =
       let g = goes run chars read in
       let k = further g.left g.read g.is_read in
-      let all : with_titles old.titled (g.parts ++ k.parts) ≡ with_titles old.titled g.parts ++ with_titles mid.titled k.parts =
-      titles_on old.titled g.parts k.parts ∙ ap (λ (b : Bool). with_titles old.titled g.parts ++ with_titles b k.parts) (sym g.titles) in
+      let all : as_read old.reading (g.parts ++ k.parts) ≡ as_read old.reading g.parts ++ as_read mid.reading k.parts =
+      as_read_on old.reading g.parts k.parts ∙ ap (λ (r : Reading). as_read old.reading g.parts ++ as_read r k.parts) (sym g.reads) in
       record {
         parts = g.parts ++ k.parts;
         text = g.text ++ k.text;
         left = k.left;
         read = k.read;
         first = parts_on limit g.parts k.parts old.mode old.bytes mid.bytes new.bytes mid.mode new.mode g.first k.first;
-        titles = k.titles ∙ ap (λ (b : Bool). title_open b k.parts) g.titles ∙ sym (open_on old.titled g.parts k.parts);
+        reads = k.reads ∙ ap (λ (r : Reading). read_behind r k.parts) g.reads ∙ sym (read_on old.reading g.parts k.parts);
         steps = subst (λ (ps : List Part). AreSteps Gives old.rule run ps (g.text ++ k.text) new.rule k.left) (sym all)
-            (steps_on (with_titles old.titled g.parts) (with_titles mid.titled k.parts) old.rule mid.rule new.rule run g.left k.left g.text k.text g.steps k.steps);
+            (steps_on (as_read old.reading g.parts) (as_read mid.reading k.parts) old.rule mid.rule new.rule run g.left k.left g.text k.text g.steps k.steps);
         is_read = k.is_read;
         same = rw (← append_assoc, g.same, append_assoc, k.same, append_assoc) refl;
       }
 
   -- a span
   pub goes_span : (limit : ℕ) (old new : Between S) (k : Kind) (span more : List ℕ) → Cuts limit old.mode old.bytes k span new.bytes new.mode
-      → IsAppended Gives (read_as k old.titled) old.rule old.held span more new.rule new.held → new.titled ≡ title_behind old.titled k span → GoesBy Gives limit old more new
-  goes_span limit old new k span more cut h titles run chars read =
-      let now = titled old.titled k span cut.parts cut.span in
-      let x = spanned (read_as k old.titled) old.rule run chars old.held span more (with_titles old.titled cut.parts) new.rule new.held now.span read h in
-      record { parts = cut.parts; text = x.text; left = x.left; read = x.read; first = cut.first; titles = titles ∙ sym now.behind; steps = x.steps; is_read = x.is_read; same = x.same }
+      → IsAppended Gives old.reading.sets (read_as k old.reading.titled) old.rule old.held span more new.rule new.held → new.reading ≡ passed old.reading k span → GoesBy Gives limit old more new
+  goes_span limit old new k span more cut h reads run chars read =
+      let now = span_read old.reading k span cut.parts cut.span in
+      let x = spanned (read_as k old.reading.titled) old.reading.sets old.rule run chars old.held span more (as_read old.reading cut.parts) new.rule new.held now.span read h in
+      record { parts = cut.parts; text = x.text; left = x.left; read = x.read; first = cut.first; reads = reads ∙ sym now.behind; steps = x.steps; is_read = x.is_read; same = x.same }
 
   -- the bytes behind are the last of them
   pub goes_split : (limit : ℕ) (old new : Between S) (more : List ℕ) → GoesBy Gives limit old more new → (front : List ℕ) × (old.bytes ≡ front ++ new.bytes)
   goes_split limit old new more goes = let g = goes old.held [] (read_none old.held) in (flat_map bytes_of g.parts, parts_join limit g.parts old.mode old.bytes new.bytes new.mode g.first)
 
   -- what is left over at the end
-  over : (rest : List ℕ) (t : Bool) (s : S) (run : List ℕ) → (text : List ℕ) × (left : List ℕ) × AreSteps Gives s run (with_titles t (left_over rest)) text s left × (run_as Gives.writing run ≡ text ++ run_as Gives.writing left)
-  over [] t s run = ([], run, (refl, refl, refl), refl)
-  over (b ∷ rest) t s run =
+  over : (rest : List ℕ) (r : Reading) (s : S) (run : List ℕ) → (text : List ℕ) × (left : List ℕ) × AreSteps Gives s run (as_read r (left_over rest)) text s left × (run_as Gives.writing run ≡ text ++ run_as Gives.writing left)
+  over [] r s run = ([], run, (refl, refl, refl), refl)
+  over (b ∷ rest) r s run =
       let none = append-nil (run_as Gives.writing run) in
       (run_as Gives.writing run, [], (run_as Gives.writing run, s, [], [], (refl, refl, refl), sym none, (refl, refl, refl)), sym none ∙ ap (λ t. run_as Gives.writing run ++ t) (sym (shown_none Gives.writing)))
 
@@ -166,9 +169,11 @@ module _ {S : Type 0} (Gives : RuleOf S) where
   ends_by Closes limit s bytes appended close last goes unsure k =
       let g = goes [] [] (read_none []) in
       let end = left_over last.bytes in
-      let (text, left, steps, shown) = over last.bytes last.titled last.rule g.left in
+      let (text, left, steps, shown) = over last.bytes last.reading last.rule g.left in
       let front : appended ≡ g.text ++ chars_as Gives.writing g.read = rw (written_none Gives.writing) at g.same in
       let same = sym (shown_read Gives.writing g.left g.read last.held g.is_read) ∙ shown in
+      let together : as_read first_reading (g.parts ++ end) ≡ as_read first_reading g.parts ++ as_read last.reading end =
+      as_read_on first_reading g.parts end ∙ ap (λ (r : Reading). as_read first_reading g.parts ++ as_read r end) (sym g.reads) in
       record {
         parts = g.parts ++ end;
         whole = record { sure = g.parts; rest = last.bytes; after = last.mode; first = g.first; unsure = unsure; whole = refl };
@@ -177,7 +182,8 @@ module _ {S : Type 0} (Gives : RuleOf S) where
         after = last.rule;
         close = close;
         closes = k;
-        steps = rw (titles_on false g.parts end, ← g.titles) (steps_on (with_titles false g.parts) (with_titles last.titled end) s last.rule last.rule [] g.left left g.text text g.steps steps);
+        steps = subst (λ (ps : List Part). AreSteps Gives s [] ps (g.text ++ text) last.rule left) (sym together)
+            (steps_on (as_read first_reading g.parts) (as_read last.reading end) s last.rule last.rule [] g.left left g.text text g.steps steps);
         all = rw (front, append_assoc, ← append_assoc (chars_as Gives.writing g.read) _ close, same) (simp append_assoc);
       }
 
@@ -186,7 +192,7 @@ module _ {S : Type 0} (Gives : RuleOf S) where
   goes_more limit old mid one second goes run chars read =
       let g = goes run chars read in
       let first = parts_more limit g.parts old.mode old.bytes second mid.bytes mid.mode g.first in
-      record { parts = g.parts; text = g.text; left = g.left; read = g.read; first = first; titles = g.titles; steps = g.steps; is_read = g.is_read; same = g.same }
+      record { parts = g.parts; text = g.text; left = g.left; read = g.read; first = first; reads = g.reads; steps = g.steps; is_read = g.is_read; same = g.same }
 
   -- nothing came yet
   pub takes_none : (s : S) → Takes Gives (start_of s) [] [] (start_of s)
@@ -287,6 +293,28 @@ behind_both bytes front behind text rest e f = (front ++ text, e ∙ ap (λ t. f
 no_chars : (chars : List ℕ) → IsRead [] chars [] → chars ≡ []
 no_chars chars read = sym (append-nil chars) ∙ ap (λ t. chars ++ t) (sym lossy_chars-nil) ∙ sym (read []) ∙ lossy_chars-nil
 
+-- where no `!` stands third, no DECSTR stands
+not_decstr : (len : ℕ) (bytes : List ℕ) → slice_index bytes 2 ≢ 33 → is_decstr (take len bytes) ≡ false
+not_decstr zero bytes h = refl
+not_decstr (suc n) [] h = refl
+not_decstr (suc zero) (a ∷ bytes) h = refl
+not_decstr (suc (suc n)) (a ∷ []) h = refl
+not_decstr (suc (suc zero)) (a ∷ b ∷ bytes) h = refl
+not_decstr (suc (suc (suc n))) (a ∷ b ∷ []) h = refl
+not_decstr (suc (suc (suc n))) (a ∷ b ∷ c ∷ bytes) h = grind (arith, nat_tests)
+
+-- behind what was taken less is left, or nothing was
+pub smaller : (rest told : List ℕ) (len : ℕ) → length told ≤ length rest → len ≤ length told → length (drop len told) + cond (nat_lt 0 len) 1 0 < length rest + 1
+smaller rest told len le within = cond_both (nat_lt 0 len) 1 0 (λ k. length (drop len told) + k < length rest + 1)
+    (λ yes. let some : 0 < len = grind (arith, nat_tests) in omega (arith, some, le, within, length-drop len told)) (λ _. omega (arith, le, length-drop len told))
+
+-- no title is open
+abbrev untitled : Sets → Reading
+untitled sets = record { titled = false; sets = sets }
+
+pub untitled_is : (r : Reading) → r.titled ≡ false → r ≡ untitled r.sets
+untitled_is r e = ap (λ (t : Bool). record { titled = t; sets = r.sets }) e
+
 module _ {S : Type 0} (Gives : RuleOf S) (limit : ℕ) where
   pub to_none : (it : Between S) (out : List ℕ) → GoesTo Gives limit it it out out
   to_none it out = ([], sym (append-nil out), goes_none Gives limit it, [], refl)
@@ -297,21 +325,21 @@ module _ {S : Type 0} (Gives : RuleOf S) (limit : ℕ) where
       (one ++ two, longer ∙ ap (λ l. l ++ two) out ∙ append_assoc before one two, goes_then Gives limit old mid new one two goes further, front, both)
 
   -- a span that is no text is held no more
-  ends_in : (k : Kind) (s : S) (held span text : List ℕ) (after : S) (left : List ℕ) → IsAppended Gives k s held span text after left → (front : List ℕ) × (held ++ span ≡ front ++ left)
-  ends_in Kind.Text s held span text after left (chars, reads, e, same) = (reads.1, reads.2)
-  ends_in Kind.Csi s held span text after left (own, gives, e, none) = (held ++ span, rw none (sym (append-nil (held ++ span))))
-  ends_in Kind.Esc s held span text after left (own, gives, e, none) = (held ++ span, rw none (sym (append-nil (held ++ span))))
-  ends_in Kind.Str s held span text after left (own, gives, e, none) = (held ++ span, rw none (sym (append-nil (held ++ span))))
-  ends_in _ s held span text after left h = (held ++ span, rw h.2 (sym (append-nil (held ++ span))))
+  ends_in : (k : Kind) (sets : Sets) (s : S) (held span text : List ℕ) (after : S) (left : List ℕ) → IsAppended Gives sets k s held span text after left → (front : List ℕ) × (held ++ span ≡ front ++ left)
+  ends_in Kind.Text sets s held span text after left (chars, (read, front, split), e, same) = (front, split)
+  ends_in Kind.Csi sets s held span text after left (own, gives, e, none) = (held ++ span, rw none (sym (append-nil (held ++ span))))
+  ends_in Kind.Esc sets s held span text after left (own, gives, e, none) = (held ++ span, rw none (sym (append-nil (held ++ span))))
+  ends_in Kind.Str sets s held span text after left (own, gives, e, none) = (held ++ span, rw none (sym (append-nil (held ++ span))))
+  ends_in _ sets s held span text after left h = (held ++ span, rw h.2 (sym (append-nil (held ++ span))))
 
   pub to_span : (old new : Between S) (k : Kind) (span more before after : List ℕ) → Cuts limit old.mode old.bytes k span new.bytes new.mode
-      → IsAppended Gives (read_as k old.titled) old.rule old.held span more new.rule new.held → new.titled ≡ title_behind old.titled k span → after ≡ before ++ more → GoesTo Gives limit old new before after
-  to_span old new k span more before after cut h titles longer =
-      let (front, e) = ends_in (read_as k old.titled) old.rule old.held span more new.rule new.held h in
+      → IsAppended Gives old.reading.sets (read_as k old.reading.titled) old.rule old.held span more new.rule new.held → new.reading ≡ passed old.reading k span → after ≡ before ++ more → GoesTo Gives limit old new before after
+  to_span old new k span more before after cut h reads longer =
+      let (front, e) = ends_in (read_as k old.reading.titled) old.reading.sets old.rule old.held span more new.rule new.held h in
       let split = cut_parts limit old.mode old.bytes k span new.bytes new.mode cut in (
         more,
         longer,
-        goes_span Gives limit old new k span more cut h titles,
+        goes_span Gives limit old new k span more cut h reads,
         front,
         ap (λ t. old.held ++ t) split ∙ sym (append_assoc old.held span new.bytes) ∙ ap (λ t. t ++ new.bytes) e ∙ append_assoc front new.held new.bytes,
       )
@@ -320,27 +348,71 @@ module _ {S : Type 0} (Gives : RuleOf S) (limit : ℕ) where
   pub to_split : (old new : Between S) (before after : List ℕ) → GoesTo Gives limit old new before after → (front : List ℕ) × (old.bytes ≡ front ++ new.bytes)
   to_split old new before after (more, longer, goes, front, e) = goes_split Gives limit old new more goes
 
-  pub over_told : (s : S) (bytes rest old new : List ℕ) → Tells Gives.writing bytes rest old new → GoesTo Gives limit (bare_at s bytes) (bare_at s rest) old new
-  over_told s bytes rest old new ([], chars, parts, (other, read), longer) = rw (longer, parts, no_chars chars read, written_none Gives.writing, append-nil old) (to_none (bare_at s rest) old)
-  over_told s bytes rest old new (b ∷ text, chars, parts, (other, read), longer) =
-      to_span (bare_at s bytes) (bare_at s rest) Kind.Text (b ∷ text) (chars_as Gives.writing chars) old new (rw parts (told_cut limit (b ∷ text) rest (omega arith) other))
-      (chars, (read, b ∷ text, sym (append-nil (b ∷ text))), refl, refl) refl longer
+  pub over_told : (s : S) (sets : Sets) (bytes rest old new : List ℕ) → in_use sets ≡ Ascii → Tells Gives.writing bytes rest old new → GoesTo Gives limit (bare_at s sets bytes) (bare_at s sets rest) old new
+  over_told s sets bytes rest old new is ([], chars, parts, (other, read), longer) = rw (longer, parts, no_chars chars read, written_none Gives.writing, append-nil old) (to_none (bare_at s sets rest) old)
+  over_told s sets bytes rest old new is (b ∷ text, chars, parts, (still, read), longer) =
+      let same = same_still sets (b ∷ text) is still in
+      to_span (bare_at s sets bytes) (bare_at s sets rest) Kind.Text (b ∷ text) (chars_as Gives.writing chars) old new
+      (rw parts (told_cut limit (b ∷ text) rest (omega arith) (all_weaker IsStill IsOther (λ b h. h.0) (b ∷ text) still)))
+      (chars, draws_same sets [] (b ∷ text) [] chars same (read, b ∷ text, sym (append-nil (b ∷ text))), refl, refl) (ap (λ (x : Sets). untitled x) (sym same.1)) longer
 
-  pub over_escape : (s after : S) (bytes old new : List ℕ) → BeginsWithEscape bytes → (text : List ℕ) × Gives.escape s (take 3 bytes) text after × (new ≡ old ++ text)
-      → GoesTo Gives limit (bare_at s bytes) (bare_at after (drop 3 bytes)) old new
-  over_escape s after [] old new h given = absurd (omega (arith, h.0))
-  over_escape s after (a ∷ []) old new h given = absurd (omega (arith, h.0))
-  over_escape s after (a ∷ b ∷ []) old new h given = absurd (omega (arith, h.0))
-  over_escape s after (a ∷ b ∷ c ∷ more) old new (long, first, from, to, low, high) (text, gives, longer) =
-      to_span (bare_at s (a ∷ b ∷ c ∷ more)) (bare_at after more) Kind.Esc (27 ∷ b ∷ c ∷ []) text old new (rw first (escape_cut limit b c more from to low high))
+  -- a byte of ASCII, as it is drawn
+  pub over_one : (s : S) (sets : Sets) (b : ℕ) (rest old new : List ℕ) → b < 128 → IsOther b → new ≡ old ++ chars_as Gives.writing (char_in (in_use sets) b ∷ [])
+      → GoesTo Gives limit (bare_at s sets (b ∷ rest)) (bare_at s (shifted sets b) rest) old new
+  over_one s sets b rest old new low other longer =
+      let c = char_in (in_use sets) b in
+      let draws : Draws sets [] (b ∷ []) (c ∷ []) [] = rw lossy_chars-nil at (draws_one sets [] b low) in
+      to_span (bare_at s sets (b ∷ rest)) (bare_at s (shifted sets b) rest) Kind.Text (b ∷ []) (chars_as Gives.writing (c ∷ [])) old new
+      (told_cut limit (b ∷ []) rest (omega arith) (other, tt)) (c ∷ [], draws, refl, refl) refl longer
+
+  -- one that shifts no set in
+  pub over_drawn : (s : S) (sets : Sets) (bytes : List ℕ) (b : ℕ) (rest old new : List ℕ) → bytes ≡ b ∷ rest → is_drawn b ≡ true
+      → new ≡ old ++ chars_as Gives.writing (char_in (in_use sets) b ∷ []) → GoesTo Gives limit (bare_at s sets bytes) (bare_at s sets rest) old new
+  over_drawn s sets bytes b rest old new e drawn longer =
+      let low : b < 128 = grind (arith, nat_tests) in
+      let other : IsOther b = λ is. absurd (grind (arith, nat_tests)) in
+      let still : shifted sets b ≡ sets = grind (arith, nat_tests) in
+      rw e (subst (λ (x : Sets). GoesTo Gives limit (bare_at s sets (b ∷ rest)) (bare_at s x rest) old new) still (over_one s sets b rest old new low other longer))
+
+  -- SO or SI
+  pub over_shift : (s : S) (sets : Sets) (bytes : List ℕ) (b : ℕ) (rest out : List ℕ) → bytes ≡ b ∷ rest → not (unshifted b) ≡ true
+      → GoesTo Gives limit (bare_at s sets bytes) (bare_at s (shifted sets b) (drop 1 bytes)) out out
+  over_shift s sets bytes b rest out e shifts =
+      let low : b < 32 = grind (arith, nat_tests) in
+      let other : IsOther b = λ is. absurd (grind (arith, nat_tests)) in
+      let hidden : shown b ≡ false = grind (arith, nat_tests) in
+      rw e (over_one s sets b rest out out (omega (arith, low)) other (rw (set_control (in_use sets) b low, hidden, written_none Gives.writing) (sym (append-nil out))))
+
+  -- SI where G0 is shifted in
+  pub over_si : (s : S) (sets : Sets) (bytes out : List ℕ) → 0 < length bytes → slice_index bytes 0 ≡ 15 → sets.shifted ≡ false
+      → GoesTo Gives limit (bare_at s sets bytes) (bare_at s sets (drop 1 bytes)) out out
+  over_si s sets [] out some si none = absurd (omega (arith, some))
+  over_si s sets (b ∷ rest) out some si none =
+      let still : shifted sets 15 ≡ sets = ap (λ (t : Bool). record { g0 = sets.g0; g1 = sets.g1; shifted = t }) (sym none) in
+      let gone : GoesTo Gives limit (bare_at s sets (15 ∷ rest)) (bare_at s (shifted sets 15) rest) out out = over_shift s sets (15 ∷ rest) 15 rest out refl refl in
+      rw si (subst (λ (x : Sets). GoesTo Gives limit (bare_at s sets (15 ∷ rest)) (bare_at s x rest) out out) still gone)
+
+  pub over_escape : (s after : S) (sets : Sets) (bytes old new : List ℕ) → BeginsWithEscape bytes → (text : List ℕ) × Gives.escape s (take 3 bytes) text after × (new ≡ old ++ text)
+      → GoesTo Gives limit (bare_at s sets bytes) (bare_at after (behind_escape sets (take 3 bytes)) (drop 3 bytes)) old new
+  over_escape s after sets [] old new h given = absurd (omega (arith, h.0))
+  over_escape s after sets (a ∷ []) old new h given = absurd (omega (arith, h.0))
+  over_escape s after sets (a ∷ b ∷ []) old new h given = absurd (omega (arith, h.0))
+  over_escape s after sets (a ∷ b ∷ c ∷ more) old new (long, first, from, to, low, high) (text, gives, longer) =
+      to_span (bare_at s sets (a ∷ b ∷ c ∷ more)) (bare_at after (behind_escape sets (a ∷ b ∷ c ∷ [])) more) Kind.Esc (27 ∷ b ∷ c ∷ []) text old new (rw first (escape_cut limit b c more from to low high))
       (text, rw first at gives, ap (λ t. t ++ text) (sym (shown_none Gives.writing)), refl) refl longer
 
   -- a sequence that a rule took at once, or none
-  pub over_taken : (len : ℕ) (s after : S) (bytes old new : List ℕ) → len ≤ limit
+  pub over_taken : (len : ℕ) (s after : S) (sets : Sets) (bytes old new : List ℕ) → len ≤ limit
       → (0 < len → (text : List ℕ) × IsSequence (take len bytes) × Gives.sequence s (take len bytes) text after × (new ≡ old ++ text))
-      → (len ≡ 0 → (after ≡ s) × (new ≡ old)) → GoesTo Gives limit (bare_at s bytes) (bare_at after (drop len bytes)) old new
-  over_taken zero s after bytes old new short taken none = let h = none refl in rw (h.0, h.1) (to_none (bare_at s bytes) old)
-  over_taken (suc n) s after bytes old new short taken none =
+      → (len ≡ 0 → (after ≡ s) × (new ≡ old)) → GoesTo Gives limit (bare_at s sets bytes) (bare_at after (behind sets Kind.Csi (take len bytes)) (drop len bytes)) old new
+  over_taken zero s after sets bytes old new short taken none = let h = none refl in rw (h.0, h.1) (to_none (bare_at s sets bytes) old)
+  over_taken (suc n) s after sets bytes old new short taken none =
       let (text, one, gives, longer) = taken (omega arith) in
-      to_span (bare_at s bytes) (bare_at after (drop (suc n) bytes)) Kind.Csi (take (suc n) bytes) text old new (sequence_cut limit (suc n) bytes one short)
+      to_span (bare_at s sets bytes) (bare_at after (behind sets Kind.Csi (take (suc n) bytes)) (drop (suc n) bytes)) Kind.Csi (take (suc n) bytes) text old new (sequence_cut limit (suc n) bytes one short)
       (text, gives, ap (λ t. t ++ text) (sym (shown_none Gives.writing)), refl) refl longer
+
+  -- one that isn't DECSTR changes no set
+  pub over_sequence : (len : ℕ) (s after : S) (sets : Sets) (bytes old new : List ℕ) → slice_index bytes 2 ≢ 33 → len ≤ limit
+      → (0 < len → (text : List ℕ) × IsSequence (take len bytes) × Gives.sequence s (take len bytes) text after × (new ≡ old ++ text))
+      → (len ≡ 0 → (after ≡ s) × (new ≡ old)) → GoesTo Gives limit (bare_at s sets bytes) (bare_at after sets (drop len bytes)) old new
+  over_sequence len s after sets bytes old new other short taken none = rw (not_decstr len bytes other) at (over_taken len s after sets bytes old new short taken none)

@@ -1,13 +1,16 @@
 -- What is noted of a control sequence, and the text of a style: digits and `:` in front of `m`, one sequence, which is taken for that style.
-use Rattle.std.proofs.Common.{◌≡◌, ◌+◌, ◌-◌, ◌∙◌, ℕ, suc, Bool, true, false, cond, List, [], ◌∷◌, ◌++◌, map, length, get_or, take, drop, refl, sym, ap, subst, append-nil, arith, ◌==◌, MatchBool, ◌≤◌, ◌<◌, ◌^◌, ◌⊎◌, length-append, inl, inr, append_assoc, rules, eqb-true, ◌&&◌, codes, nat_le, nat_lt, slice_get, decimal}
-use Rattle.std.proofs.{lemmas.Bool.cases_Bool, lemmas.List.append_cancel_right, lemmas.Fmt.digits_decimal, lemmas.Fmt.decimal_nonempty}
-use Rattle.std.proofs.{lemmas.Str.Parse.IsNumeralModel, lemmas.Str.Parse.numerals_by_fold}
-use Rattle.csicodec_clean.proofs.Common.{take-append_seam, ColorSpec, sgr_text, CsiParam, Seq, Action, Unspecified, texts, IsSequence, Depth, Keeping, keeping, keeps, IsLeft, IsNoted, Group, Styles, group, Actions, IsTakenFor, has_unknown, and_parts, cond_both, nat_tests, AllByRecursion, Integer, P, Reads, SrgbaTuple, ColorInRange, SgrInRange, text, semicolon, ReadsAlone, parsed-kept, longest, hides}
-use Rattle.csicodec_clean.proofs.{Chunks.front_read, Plain.all_both, Plain.all_parts, Plain.all_weaker}
+use Rattle.std.proofs.Common.{◌≡◌, ◌+◌, ◌-◌, ◌∙◌, ℕ, zero, suc, Bool, true, false, cond, List, [], ◌∷◌, ◌++◌, length, get_or, take, drop, refl, sym, ap, subst, append-nil, arith, ◌==◌, MatchBool, ◌≤◌, ◌<◌, ◌^◌, ◌⊎◌, length-append, inl, inr, append_assoc, rules, eqb-true, ◌&&◌, codes, nat_le, nat_lt, slice_get, decimal}
+use Rattle.std.proofs.{lemmas.Bool.cases_Bool, lemmas.List.append_cancel_right, lemmas.List.length-drop, lemmas.List.take-append-le, lemmas.Fmt.digits_decimal}
+use Rattle.std.proofs.{lemmas.Fmt.decimal_nonempty, lemmas.Str.Parse.IsNumeralModel, lemmas.Str.Parse.numerals_by_fold}
+use Rattle.csicodec_clean.proofs.Common.{drop-append_seam, drop-append-le, ColorSpec, sgr_text, CsiParam, Seq, Action, Unspecified, IsSequence, Depth, Keeping, keeping, keeps, IsLeft, IsNoted, Group, Styles, group, Actions, IsTakenFor, has_unknown, and_parts, cond_both, nat_tests, AllByRecursion, Integer, P, Reads, SrgbaTuple, ColorInRange, SgrInRange, text, semicolon, ReadsAlone, parsed-kept, longest, hides}
+use Rattle.csicodec_clean.proofs.{Rendered.attribute_most, Rendered.behind_none, Rendered.depth_first, Rendered.lasting, Rendered.note_plain, Chunks.front_read}
+use Rattle.csicodec_clean.proofs.{Plain.all_both, Plain.all_parts, Plain.all_weaker}
 use Rattle.csicodec_base.specs.{Shapes.Plane, Shapes.painted, declared.sgr.Sgr.Sgr, SgrText.palette_text, SgrText.true_color_text}
 use Rattle.csicodec_actions.specs.{declared.cursor.Cursor.Cursor, Actions.Cursor as Move, Actions.Sgr as SgrAction}
 use Rattle.csicodec_streams.specs.{Colors.IsColored, Colors.IsOpaque, Colors.color_list, Colors.plane_byte, Compose.EndsInSemicolon}
-use Rattle.csicodec_clean.specs.{Styled.is_decstr, Styled.is_open, Styled.kept, Private.Notes.depth_byte, Private.Notes.note_of, Private.Notes.open_byte}
+use Rattle.csicodec_clean.specs.Styled.{Rendition, Spelled, attribute, behind_styles, is_reset, spelled, style_texts}
+use Rattle.csicodec_clean.specs.Private.Notes.{HasPlaces, IsSplit, HasText, IsNote, IsTaken, depth_byte, kept, note_of, places}
+use Rattle.csicodec_clean.specs.{Saving.are_lasting, declared.styles.Passing.Passing}
 use Rattle.csicodec_parser.specs.{Cut.Cut, Cut.body, Groups.has_odd, Groups.is_byte, Segments.ActionsIn, Segments.BodyActions, Segments.remainder}
 use Rattle.csicodec_terminal.specs.Terminal.{is_open as leaves_out}
 use Rattle.std.specs.Fmt.{digits}
@@ -27,55 +30,109 @@ use Rattle.csicodec_actions.specs.Actions as action
 same_depth : (d e : Depth) → depth_byte d ≡ depth_byte e → d ≡ e
 same_depth d e h = grind arith
 
-flag_is : (styled : Bool) (styles : List Sgr) (now : ℕ) → now ≡ cond styled (open_byte (is_open true styles)) (open_byte (is_open false styles)) → (now == 1) ≡ is_open styled styles
-flag_is styled styles now e = grind arith
+-- of actions that save nothing and bring nothing back
+left_lasting : (p : Passing) (bytes old new : List ℕ) (actions : List Action) (before after : Spelled) → IsTakenFor bytes actions → are_lasting actions ≡ true
+    → new ≡ old ++ style_texts (kept p.depth actions) → ((r : Rendition) → before ≡ spelled r → after ≡ spelled (behind_styles p r (kept p.depth actions)))
+    → IsLeft p bytes before after old new
+left_lasting p bytes old new actions before after is lasts longer behind = (
+  actions,
+  is,
+  (style_texts (kept p.depth actions), longer, λ r begins. (let (styles, state) = lasting p r actions lasts in (ap style_texts (sym styles), behind r begins ∙ ap spelled (sym state)))),
+)
 
 -- from the note, and what was appended of it
-pub recalled : (d : Depth) (styled : Bool) (bytes note wide more old new : List ℕ) (now : ℕ) → IsNoted bytes note → get_or note 0 0 ≡ depth_byte d
-    → now ≡ cond styled (get_or note 2 0) (get_or note 1 0) → wide ≡ note ++ more
-    → new ≡ old ++ take (length note - 3) (drop 3 wide) → IsLeft d styled bytes (now == 1) old new
-recalled d styled bytes note wide more old new now (e, actions, is, other, noted) byte opened w longer =
-    let same : e ≡ d = same_depth e d (sym (ap (λ l. get_or l 0 0) noted) ∙ byte) in
-    let text = texts (map SgrAction (kept e actions)) in
-    let size : length note - 3 ≡ length text = omega (arith, ap length noted) in
-    let behind : drop 3 wide ≡ text ++ more = ap (drop 3) (w ∙ ap (λ l. l ++ more) noted) in
-    let front : take (length note - 3) (drop 3 wide) ≡ text = ap (λ n. take n (drop 3 wide)) size ∙ ap (take (length text)) behind ∙ take-append_seam text more in
-    let flag : (now == 1) ≡ is_open styled (kept e actions) = flag_is styled (kept e actions) now (opened ∙ ap (λ l. cond styled (get_or l 2 0) (get_or l 1 0)) noted) in
-    subst (λ (x : Depth). IsLeft x styled bytes (now == 1) old new) same (actions, is, other, flag, longer ∙ ap (λ t. old ++ t) front)
+pub recalled : (p : Passing) (bytes note wide more old new : List ℕ) (start len : ℕ) (before after : Spelled) → IsNoted bytes note → get_or note 0 0 ≡ depth_byte p.depth
+    → start + len ≤ length note → HasText note start len → wide ≡ note ++ more → new ≡ old ++ take len (drop start wide) → IsTaken p note before after → IsLeft p bytes before after old new
+recalled p bytes note wide more old new start len before after (e, actions, front, since, is, lasts, split, noted) byte fits text w longer taken =
+    let same : e ≡ p.depth = same_depth e p.depth (sym (ap (λ l. get_or l 0 0) noted ∙ depth_first e front since) ∙ byte) in
+    let long : length (drop start note) ≡ length note - start = length-drop start note in
+    let own : take len (drop start wide) ≡ take len (drop start note) =
+    ap (λ l. take len (drop start l)) w ∙ ap (take len) (drop-append-le start note more (omega (arith, fits))) ∙ take-append-le len (drop start note) more (omega (arith, fits, long)) in
+    let all : take len (drop start wide) ≡ style_texts (kept e actions) = own ∙ text e front since noted ∙ ap style_texts (sym split.0) in
+    left_lasting p bytes old new actions before after is lasts (subst (λ (x : Depth). new ≡ old ++ style_texts (kept x actions)) same (longer ∙ ap (λ t. old ++ t) all))
+    (λ r begins. subst (λ (x : Depth). after ≡ spelled (behind_styles p r (kept x actions))) same (taken e front since (kept e actions) noted split r begins))
+
+-- and where it is noted now
+pub left_noted : (p : Passing) (bytes note old new : List ℕ) (actions : List Action) (front since : List Sgr) (before after : Spelled) → IsTakenFor bytes actions
+    → are_lasting actions ≡ true → IsSplit (kept p.depth actions) front since → note ≡ note_of p.depth front since → new ≡ old ++ style_texts (kept p.depth actions)
+    → IsTaken p note before after → IsLeft p bytes before after old new
+left_noted p bytes note old new actions front since before after is lasts split noted longer taken =
+    left_lasting p bytes old new actions before after is lasts longer (λ r begins. taken p.depth front since (kept p.depth actions) noted split r begins)
+
+-- what is written of a text that was appended is its note
+pub noted_now : (d : Depth) (actions : List Action) (old out made note told : List ℕ) (behind : ℕ) → out ≡ old ++ style_texts (kept d actions)
+    → HasPlaces (kept d actions) behind told → made ≡ drop (length old) out
+    → ((styles front since : List Sgr) → IsSplit styles front since → behind ≡ length (style_texts front) → told ≡ places since → made ≡ style_texts styles
+    → note ≡ note_of d front since) → (front : List Sgr) × (since : List Sgr) × IsSplit (kept d actions) front since × (note ≡ note_of d front since)
+noted_now d actions old out made note told behind longer (front, since, split, stands, is, few) own writes = (
+  front,
+  since,
+  split,
+  writes (kept d actions) front since split stands is (own ∙ ap (drop (length old)) longer ∙ drop-append_seam old (style_texts (kept d actions))),
+)
 
 -- what the rule gives for it
-pub left_given : (k : Keeping) (bytes : List ℕ) (after : Bool) (old new : List ℕ) → IsLeft k.passing.depth k.styled bytes after old new
+pub given : (k : Keeping) (bytes : List ℕ) (after : Spelled) (old new : List ℕ) → IsLeft k.passing bytes k.rendition after old new
     → (text : List ℕ) × IsSequence bytes × keeps.sequence k bytes text (keeping k.passing after k.linked k.begun) × (new ≡ old ++ text)
-left_given k bytes after old new (actions, is, other, now, longer) = (
-  texts (map SgrAction (kept k.passing.depth actions)),
+given k bytes after old new (actions, is, (text, longer, gives)) = (
+  text,
   (is.0, is.1, is.2),
-  rw other (actions, is, refl, ap (λ (b : Bool). keeping k.passing b k.linked k.begun) now),
+  (actions, is, λ r begins. (let (out, state) = gives r begins in (out, ap (λ (x : Spelled). keeping k.passing x k.linked k.begun) state))),
   longer,
 )
 
+-- where nothing is appended, as for a movement
+pub nothing_left : (p : Passing) (bytes : List ℕ) (k : Spelled) (old : List ℕ) (actions : List Action) → IsTakenFor bytes actions → are_lasting actions ≡ true
+    → kept p.depth actions ≡ [] → IsLeft p bytes k k old old
+nothing_left p bytes k old actions is lasts none =
+    left_lasting p bytes old old actions k k is lasts (rw none (sym (append-nil old))) (λ r begins. begins ∙ ap spelled (behind_none p r ∙ ap (behind_styles p r) (sym none)))
+
 -- ---- a colour, where all stay
 
-color_note : (plane : Plane) (color : ColorSpec) → note_of depth.Full (SgrAction (painted plane color) ∷ []) ≡ 0 ∷ 1 ∷ 1 ∷ 27 ∷ 91 ∷ sgr_text (painted plane color)
-color_note plane color = grind (arith, append-nil {A = ℕ})
+color_kept : (plane : Plane) (color : ColorSpec) → kept depth.Full (SgrAction (painted plane color) ∷ []) ≡ painted plane color ∷ []
+color_kept plane color = grind arith
+
+color_sets : (plane : Plane) (color : ColorSpec) → is_reset (painted plane color) ≡ false
+color_sets plane color = grind arith
+
+one_text : (s : Sgr) → style_texts (s ∷ []) ≡ 27 ∷ 91 ∷ sgr_text s
+one_text s = append-nil (27 ∷ 91 ∷ sgr_text s)
+
+color_split : (style : Sgr) (bytes rest : List ℕ) → IsColored bytes style rest → length (27 ∷ 91 ∷ sgr_text style) ≤ 32
+    → IsSplit (kept depth.Full (SgrAction style ∷ [])) [] (style ∷ [])
+color_split style bytes rest (plane, color, opaque, paints, stands) few =
+    let size : length (style_texts (style ∷ [])) ≤ 32 = omega (arith, few, ap length (one_text style)) in
+    (rw paints (color_kept plane color), ((rw paints (color_sets plane color), size), tt), inl refl)
+
+take_short : (n : ℕ) (xs : List ℕ) → length (take n xs) ≤ n
+take_short zero xs = omega arith
+take_short (suc n) [] = omega arith
+take_short (suc n) (x ∷ xs) = omega (arith, take_short n xs)
 
 -- what is noted of it, by what begins with its text
 pub color_noted : (bytes rest own text note : List ℕ) (style : Sgr) (len : ℕ) → IsColored bytes style rest → IsTakenFor own (SgrAction style ∷ [])
-    → take (len + 1) text ≡ 27 ∷ 91 ∷ sgr_text style → note ≡ take (len + 4) (0 ∷ 1 ∷ 1 ∷ text)
-    → is_decstr own ≡ false → IsNoted own note
-color_noted bytes rest own text note style len (plane, color, opaque, paints, stands) is told noted other =
-    let longer : len + 4 ≡ suc (suc (suc (len + 1))) = omega arith in
-    let all : note ≡ 0 ∷ 1 ∷ 1 ∷ 27 ∷ 91 ∷ sgr_text style = noted ∙ ap (λ n. take n (0 ∷ 1 ∷ 1 ∷ text)) longer ∙ ap (λ l. 0 ∷ 1 ∷ 1 ∷ l) told in
-    (depth.Full, SgrAction style ∷ [], is, other, all ∙ subst (λ (s : Sgr). 0 ∷ 1 ∷ 1 ∷ 27 ∷ 91 ∷ sgr_text s ≡ note_of depth.Full (SgrAction s ∷ [])) (sym paints) (sym (color_note plane color)))
+    → take (len + 1) text ≡ 27 ∷ 91 ∷ sgr_text style → len ≤ 19
+    → note ≡ take (len + 3) (0 ∷ attribute style ∷ text) → (note ≡ note_of depth.Full [] (style ∷ [])) × IsNoted own note × (length (27 ∷ 91 ∷ sgr_text style) ≤ 32)
+color_noted bytes rest own text note style len colored is told short noted =
+    let few : length (27 ∷ 91 ∷ sgr_text style) ≤ 32 = omega (arith, ap length told, take_short (len + 1) text, short) in
+    let longer : len + 3 ≡ suc (suc (len + 1)) = omega arith in
+    let note_is : note ≡ note_of depth.Full [] (style ∷ []) = noted ∙ ap (λ n. take n (0 ∷ attribute style ∷ text)) longer
+    ∙ ap (λ l. 0 ∷ attribute style ∷ l) (told ∙ sym (one_text style)) ∙ sym (note_plain depth.Full [] (style ∷ []) (omega (arith, attribute_most style))) in
+    (note_is, (depth.Full, SgrAction style ∷ [], [], style ∷ [], is, refl, color_split style bytes rest colored few, note_is), few)
 
-color_open : (plane : Plane) (color : ColorSpec) (styled : Bool) → true ≡ is_open styled (kept depth.Full (SgrAction (painted plane color) ∷ []))
-color_open plane color styled = grind arith
+pub color_place : (bytes rest : List ℕ) (style : Sgr) → IsColored bytes style rest → length (27 ∷ 91 ∷ sgr_text style) ≤ 32 → (note : List ℕ)
+    → note ≡ note_of depth.Full [] (style ∷ []) → IsNote note
+color_place bytes rest style colored few note is = (depth.Full, [], style ∷ [], kept depth.Full (SgrAction style ∷ []), color_split style bytes rest colored few, is)
 
 -- and what is left of it
-pub color_left : (bytes rest own old new : List ℕ) (style : Sgr) (styled : Bool) → IsColored bytes style rest → IsTakenFor own (SgrAction style ∷ [])
-    → new ≡ old ++ 27 ∷ 91 ∷ sgr_text style → is_decstr own ≡ false → IsLeft depth.Full styled own true old new
-color_left bytes rest own old new style styled (plane, color, opaque, paints, stands) is longer other =
-    let text = ap (λ l. old ++ drop 3 l) (sym (color_note plane color)) in
-    (SgrAction style ∷ [], is, other, rw paints (color_open plane color styled), longer ∙ rw paints text)
+pub color_left : (p : Passing) (bytes rest own note old new : List ℕ) (style : Sgr) (before after : Spelled) → p.depth ≡ depth.Full → IsColored bytes style rest
+    → IsTakenFor own (SgrAction style ∷ []) → new ≡ old ++ 27 ∷ 91 ∷ sgr_text style → note ≡ note_of depth.Full [] (style ∷ [])
+    → length (27 ∷ 91 ∷ sgr_text style) ≤ 32 → IsTaken p note before after → IsLeft p own before after old new
+color_left p bytes rest own note old new style before after full colored is longer noted few taken =
+    let split = color_split style bytes rest colored few in
+    let one : kept p.depth (SgrAction style ∷ []) ≡ style ∷ [] = ap (λ (x : Depth). kept x (SgrAction style ∷ [])) full ∙ split.0 in
+    left_lasting p own old new (SgrAction style ∷ []) before after is refl (longer ∙ ap (λ t. old ++ t) (sym (one_text style) ∙ ap style_texts (sym one)))
+    (λ r begins. taken depth.Full [] (style ∷ []) (kept depth.Full (SgrAction style ∷ [])) noted split r begins ∙ ap (λ (x : Depth). spelled (behind_styles p r (kept x (SgrAction style ∷ [])))) (sym full))
 
 -- ---- what the table reads of it, as terminals take it
 
@@ -103,6 +160,22 @@ move_closed _ list final to h = refl
 
 pub move_taken : (bytes : List ℕ) (list : List CsiParam) (final : ℕ) (to : Cursor) → Seq bytes list final → Actions list false final (Move to ∷ []) → IsTakenFor bytes (Move to ∷ [])
 move_taken bytes list final to seq are = closed_taken bytes list final (Move to ∷ []) seq are refl (move_closed (group list final) list final to are)
+
+moved_lasts : (to : Cursor) → 3 < length (text (Move to)) → are_lasting (Move to ∷ []) ≡ true
+moved_lasts Cursor.SaveCursor h = absurd (omega (arith, h))
+moved_lasts Cursor.RestoreCursor h = absurd (omega (arith, h))
+moved_lasts to h = refl
+
+moved_none : (d : Depth) (to : Cursor) → kept d (Move to ∷ []) ≡ []
+moved_none d Cursor.SaveCursor = refl
+moved_none d Cursor.RestoreCursor = refl
+moved_none d to = refl
+
+-- a position has more bytes than what saves the cursor, and what brings it back
+pub position_left : (p : Passing) (bytes : List ℕ) (k : Spelled) (old : List ℕ) (list : List CsiParam) (final : ℕ) (to : Cursor) → Seq bytes list final
+    → Actions list false final (Move to ∷ []) → bytes ≡ text (Move to) → 3 < length bytes → IsLeft p bytes k k old old
+position_left p bytes k old list final to seq are is long =
+    nothing_left p bytes k old (Move to ∷ []) (move_taken bytes list final to seq are) (moved_lasts to (subst (λ (l : List ℕ). 3 < length l) is long)) (moved_none p.depth to)
 
 -- ---- The text of a style is digits and `:`, 60 at most, in front of `m`: one control sequence, which is taken for that style.
 

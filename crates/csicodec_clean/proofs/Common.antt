@@ -11,6 +11,7 @@ pub use Rattle.csicodec_clean.specs.Stream.{AreTaken, Between, Closing, GoesBy, 
 pub use Rattle.csicodec_clean.specs.Styled.{AreLeft, IsSafe, IsStyledIn, Item, Keeping, Leaves, Link, Shown, Style, StylesIn, begun_behind, ends_of, first_kept, hides, item_texts, items_behind, keeping, keeps, link_in, links_of, resets, run_behind, shown_items, styles_of}
 pub use Rattle.csicodec_clean.specs.{Addresses.is_host_on, Check.IsOutside, Check.Stands, Private.Notes.IsLeft, Private.Notes.IsNoted, Private.Steps.GoesTo}
 pub use Rattle.csicodec_clean.specs.{Private.Steps.IsOther, Private.Steps.ReadsTo, Private.Steps.Tells, Private.Steps.bare_at, Private.Steps.state_of}
+pub use Rattle.csicodec_clean.specs.{Sets.as_read, Sets.first_reading, Sets.first_sets, Sets.passed, Sets.read_behind}
 pub use Rattle.csicodec_clean.specs.{Streams.StreamsOne, Titles.read_as, Titles.title_behind, Titles.title_open, Titles.with_titles}
 pub use Rattle.csicodec_clean.specs.{declared.links.LinkState.LinkState, declared.styles.Passing.Passing}
 pub use Rattle.csicodec_looks.specs.{Bytes.plain_byte, Xterm.reduced, declared.xterm.Depth.Depth}

@@ -7,7 +7,7 @@ use Rattle.csicodec_looks.proofs.Recalled.{same_look}
 use Rattle.csicodec_clean.specs.Page.{turned, Setting, IsSafe, PageWith, closing, first_set, IsPageWith, are_paired, led_by, switches, AreLeft, Leaves, pieces_behind, run_behind, shown_pieces}
 use Rattle.csicodec_clean.specs.{Saving.behind_all, Saving.behind_effect, Saving.escape_effect, Saving.sets, Saving.sets_any, declared.saving.Looks.Looks}
 use Rattle.csicodec_clean.specs.{Shown.IsShown, Shown.shown, Links.Address, Links.Begun, Links.behind, Links.links_in, Links.IsLink, Links.IsWithin}
-use Rattle.csicodec_clean.specs.{Links.start, Titles.with_titles, Addresses.is_web}
+use Rattle.csicodec_clean.specs.{Links.start, Sets.as_read, Sets.first_reading, Addresses.is_web}
 use Rattle.std.specs.{List.AllByRecursion, Str.all_scalars}
 use lib.Utf8.{scalar}
 use Rattle.csicodec_clean.proofs.{Plain.all_both, Plain.kept_shown, Plain.scalars_lossy, Linked.fine_behind, Linked.fine_links, Linked.links_none}
@@ -151,7 +151,7 @@ paired_left (p ∷ parts) s run ps (own, after, others, leaves, e, rest) =
 pub is_page : (m : Markup) (bytes page : List ℕ) → PageWith m bytes page → IsPageWith m page
 is_page m bytes page p = record {
   pieces = p.pieces;
-  safe = safe_left (with_titles false p.parts) (first_set m) [] p.pieces none_begun p.left;
-  paired = paired_left (with_titles false p.parts) (first_set m) [] p.pieces p.left;
+  safe = safe_left (as_read first_reading p.parts) (first_set m) [] p.pieces none_begun p.left;
+  paired = paired_left (as_read first_reading p.parts) (first_set m) [] p.pieces p.left;
   all = p.all;
 }

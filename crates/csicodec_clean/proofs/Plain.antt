@@ -1,12 +1,12 @@
 -- What is read of text whatever follows, what is shown of it, and that this is plain.
 pub use Rattle.std.proofs.lemmas.Str.{encodes-append as encoded_on}
 pub use Rattle.csicodec_looks.proofs.Fronts.{all_both, all_weaker}
-use Rattle.std.proofs.Common.{◌≡◌, ◌≢◌, ℕ, ◌<◌, ◌≤◌, List, [], ◌∷◌, ◌++◌, Option, None, Some, drop, length, length-append, slice_index, refl, sym, ap, subst, ◌∙◌, arith, append_assoc, append-nil, filter, encode_utf8_all, All, zero, suc, Bool, true, false, cond, length-drop}
+use Rattle.std.proofs.Common.{◌≡◌, ◌≢◌, ℕ, ◌<◌, ◌≤◌, List, [], ◌∷◌, ◌++◌, Option, None, Some, drop, length, length-append, slice_index, refl, sym, ap, subst, ◌∙◌, arith, append_assoc, append-nil, filter, encode_utf8_all, All, zero, suc, Bool, true, cond, length-drop}
 use Rattle.std.proofs.{lemmas.List.get_or_append_left, lemmas.List.drop_all, lemmas.List.Elements.filter-append, lemmas.List.Elements.All-from_recursion}
-use Rattle.csicodec_clean.proofs.Common.{nat_tests, drop-append-le, decoded, lossy_chars, piece-bounds, lossy_chars-nil, value-6, value-9, value-12, IsRead, flat_map-append, Writing, chars_as, run_as, shown, written, AllByRecursion, IsShown, IsPlain, IsOther, and_from, and_parts, cond_both, all_scalars, IsScalar, scalar, SpellsChar-decoded, Kind, Part, AreGiven, IsStep, AreSteps, Ends, Strips, stripped, drops, ends_bare, is_text, shown_text, IsTextOf, with_titles}
+use Rattle.csicodec_clean.proofs.Common.{nat_tests, drop-append-le, decoded, lossy_chars, piece-bounds, lossy_chars-nil, value-6, value-9, value-12, IsRead, flat_map-append, Writing, chars_as, run_as, shown, written, AllByRecursion, IsShown, IsPlain, IsOther, and_from, and_parts, cond_both, all_scalars, IsScalar, scalar, SpellsChar-decoded, Kind, Part, AreGiven, IsStep, AreSteps, Ends, Strips, stripped, drops, ends_bare, is_text, shown_text, IsTextOf, as_read, first_reading}
 use Rattle.bstr.specs.Utf8.{bad, decoded_by, or_replacement, replacement}
 use Rattle.bstr.proofs.lemmas.PieceLemmas.{by-shape, lossy_chars-step, value-1, value-2, value-3, value-5, value-8, value-11}
-use Rattle.csicodec_clean.specs.Shown.{IsCut}
+use Rattle.csicodec_clean.specs.{Private.Steps.IsStill, Shown.IsCut}
 use Rattle.std.specs.Char.{encode_utf8}
 
 longer_by : (n m b c d e c' d' e' : ℕ) → n ≤ m → ((decoded_by n b c d e).char ≡ None → (decoded_by n b c d e).size < n) → 0 < n
@@ -114,20 +114,26 @@ shown_empty w (b ∷ run) none = absurd (omega (arith, none))
 
 -- ---- The bytes of plain text.
 
-pub one_char : (c : ℕ) → IsShown c → AllByRecursion IsOther (encode_utf8 c)
+pub still_char : (c : ℕ) → IsShown c → AllByRecursion IsStill (encode_utf8 c)
 unfolding encode_utf8
-one_char c h = grind (arith, nat_tests)
+still_char c h = grind (arith, nat_tests)
+
+pub one_char : (c : ℕ) → IsShown c → AllByRecursion IsOther (encode_utf8 c)
+one_char c h = all_weaker IsStill IsOther (λ b s. s.0) (encode_utf8 c) (still_char c h)
 
 pub all_parts : {T : Type 0} (P : T → Type 0) (xs ys : List T) → AllByRecursion P (xs ++ ys) → AllByRecursion P xs × AllByRecursion P ys
 all_parts P [] ys h = (tt, h)
 all_parts P (x ∷ xs) ys h = let more = all_parts P xs ys h.1 in ((h.0, more.0), more.1)
 
-chars : (cs : List ℕ) → AllByRecursion IsShown cs → AllByRecursion IsOther (encode_utf8_all cs)
+chars : (cs : List ℕ) → AllByRecursion IsShown cs → AllByRecursion IsStill (encode_utf8_all cs)
 chars [] h = tt
-chars (c ∷ cs) h = all_both IsOther (encode_utf8 c) (encode_utf8_all cs) (one_char c h.0) (chars cs h.1)
+chars (c ∷ cs) h = all_both IsStill (encode_utf8 c) (encode_utf8_all cs) (still_char c h.0) (chars cs h.1)
+
+pub plain_still : (text : List ℕ) → IsPlain text → AllByRecursion IsStill text
+plain_still text (cs, scalars, all, e) = subst (AllByRecursion IsStill) (sym e) (chars cs all)
 
 pub plain_bytes : (text : List ℕ) → IsPlain text → AllByRecursion IsOther text
-plain_bytes text (cs, scalars, all, e) = subst (AllByRecursion IsOther) (sym e) (chars cs all)
+plain_bytes text p = all_weaker IsStill IsOther (λ b s. s.0) text (plain_still text p)
 
 pub no_escape : (text : List ℕ) → IsPlain text → All IsOther text
 no_escape text p = All-from_recursion IsOther text (plain_bytes text p)
@@ -205,7 +211,7 @@ module _ {S : Type 0} where
   pub strips : (limit : ℕ) (s : S) (bytes text : List ℕ) → Ends {S = S} drops ends_bare limit s bytes text → Strips limit bytes text
   strips limit s bytes text e =
       let bare : text ≡ e.before ++ shown_text e.run = e.all ∙ (rw (e.closes, append-nil (shown_text e.run)) refl) in
-      record { parts = e.parts; whole = e.whole; left = bare ∙ left_stripped (with_titles false e.parts) s e.after [] e.before e.run e.steps }
+      record { parts = e.parts; whole = e.whole; left = bare ∙ left_stripped (as_read first_reading e.parts) s e.after [] e.before e.run e.steps }
 
 pub strips_plain : (limit : ℕ) (bytes text : List ℕ) → Strips limit bytes text → IsPlain text
-strips_plain limit bytes text s = subst IsPlain (sym s.left) (plain_stripped (with_titles false s.parts) [])
+strips_plain limit bytes text s = subst IsPlain (sym s.left) (plain_stripped (as_read first_reading s.parts) [])

@@ -1,5 +1,5 @@
 -- Colours that are reduced are among those that stay.
-use Rattle.std.proofs.Common.{◌≡◌, ◌<◌, ◌≤◌, ◌+◌, ◌-◌, ℕ, zero, suc, false, arith}
+use Rattle.std.proofs.Common.{◌≡◌, ◌<◌, ◌≤◌, ◌+◌, ℕ, zero, suc, false, arith}
 use Rattle.csicodec_clean.proofs.Common.{cond_both, nat_tests, ColorSpec, SrgbaTuple, ColorInRange, ReadsAlone, canonical-alone, alone-only, reduced, Depth, hides}
 use Rattle.csicodec_clean.proofs.Coded.{style_range}
 use Rattle.csicodec_base.specs.declared.sgr.Sgr.{Sgr}

@@ -1,11 +1,12 @@
 -- Each link that passes stood in the stream.
 use Rattle.std.proofs.Common.{◌≡◌, ◌⊎◌, ℕ, Bool, true, false, List, [], ◌∷◌, ◌++◌, length-append, refl, sym, ap, subst, ◌∙◌, inl, inr, append_assoc, append-nil, arith, ◌==◌, filter, if◌then◌else◌, Contains, flat_map}
 use Rattle.std.proofs.{lemmas.Bool.both_ways, lemmas.List.Elements.Contains-append_right}
-use Rattle.csicodec_clean.proofs.Common.{nat_tests, flat_map-append, AllByRecursion, lossy_chars, Kind, Mode, Part, part, bytes_of, AreFirstParts, IsFirstPart, left_over, fit, Address, Begun, IsWithin, admitted, all_behind, begun, behind_at, ends_at, link_body, links_in, start, Item, Link, Shown, Style, Leaves, begun_behind, run_behind, items_behind, AreLeft, link_in, links_of, StylesIn, LinkState, Passing, longest, shown, read_as, title_behind, with_titles}
+use Rattle.csicodec_clean.proofs.Common.{nat_tests, flat_map-append, AllByRecursion, lossy_chars, Kind, Mode, Part, part, bytes_of, AreFirstParts, IsFirstPart, left_over, fit, Address, Begun, IsWithin, admitted, all_behind, begun, behind_at, ends_at, link_body, links_in, start, Item, Link, Shown, Style, Leaves, begun_behind, run_behind, items_behind, AreLeft, link_in, links_of, StylesIn, LinkState, Passing, longest, shown, read_as, title_behind, with_titles, as_read, first_reading, first_sets}
 use Rattle.csicodec_clean.proofs.{Linked.behind_on, Linked.links_none, Linked.links_on, Linked.passes, Plain.all_both, Styled.each_in, Styled.none_in}
 use Rattle.csicodec_clean.proofs.{Styled.part_links, Titles.whole_each}
 use Rattle.csicodec_spans.proofs.Agrees.{IsPiece, in_string, is_str}
-use Rattle.csicodec_clean.specs.{Styled.styled_behind, Links.IsAdmitted, Links.Spells, Links.Stood, Links.StoodIn, Links.behind, Links.opened}
+use Rattle.csicodec_clean.specs.{Sets.behind as past, Sets.drawn, Sets.with_sets, declared.reading.Sets.Sets, Styled.Rendition, Styled.plain_rendition}
+use Rattle.csicodec_clean.specs.{Links.IsAdmitted, Links.Spells, Links.Stood, Links.StoodIn, Links.behind, Links.opened}
 
 -- ---- what of a link has been read
 
@@ -210,22 +211,43 @@ string_of p = if is_str p.kind then p.bytes else []
 abbrev strings : List Part → List ℕ
 strings ps = flat_map string_of ps
 
--- what is left of parts has the links that are over in these
-one_left : (d : Passing) (u : Bool) (b : Begun) (k : Kind) (t : Bool) (run bytes rest : List ℕ) (own others : List Item) → Leaves d u b (read_as k t) bytes own
-    → links_of others ≡ links_in d.links (begun_behind d b (read_as k t) bytes) rest
-    → links_of (items_behind (read_as k t) run ++ (own ++ others)) ≡ links_in d.links b (string_of (part k bytes) ++ rest)
-one_left d u b Kind.Text true run bytes rest own others l e = rw (part_links Kind.Other run own others, l, e) refl
-one_left d u b Kind.Text false run bytes rest own others l e = rw (l, e) refl
-one_left d u b Kind.Csi t run bytes rest own others (actions, is, l) e = rw (part_links Kind.Csi run own others, l, none_in link_in Style (λ s. refl) _, e) refl
-one_left d u b Kind.Esc t run bytes rest own others l e = rw (part_links Kind.Esc run own others, l, none_in link_in Style (λ s. refl) _, e) refl
-one_left d u b Kind.Str t run bytes rest own others l e = rw (part_links Kind.Str run own others, l, each_in link_in Link (λ a. refl) _, e) (sym (links_on d.links bytes rest b))
-one_left d u b k t run bytes rest own others l e = rw (part_links k run own others, l, e) refl
+-- titles and sets change none of these
+titled_string : (k : Kind) (t : Bool) (bytes : List ℕ) → string_of (part (read_as k t) bytes) ≡ string_of (part k bytes)
+titled_string Kind.Text true bytes = refl
+titled_string Kind.Text false bytes = refl
+titled_string k t bytes = refl
 
-links_left : (d : Passing) (u : Bool) (b : Begun) (t : Bool) (run : List ℕ) (ps : List Part) (items : List Item) → AreLeft d u b run (with_titles t ps) items → links_of items ≡ links_in d.links b (strings ps)
-links_left d u b t run [] items e = ap links_of e ∙ none_in link_in Shown (λ c. refl) (filter shown (lossy_chars run))
-links_left d u b t run (p ∷ ps) items (own, others, leaves, e, left) =
-    ap links_of e ∙ one_left d u b p.kind t run p.bytes (strings ps) own others leaves
-    (links_left d (styled_behind u (read_as p.kind t) own) (begun_behind d b (read_as p.kind t) p.bytes) (title_behind t p.kind p.bytes) (run_behind (read_as p.kind t) run p.bytes) ps others left)
+drawn_string : (k : Kind) (s : Sets) (bytes : List ℕ) → string_of (part k (drawn s k bytes)) ≡ string_of (part k bytes)
+drawn_string k s bytes = grind arith
+
+titled_strings : (t : Bool) (ps : List Part) → strings (with_titles t ps) ≡ strings ps
+titled_strings t [] = refl
+titled_strings t (p ∷ ps) = rw (titled_string p.kind t p.bytes, titled_strings (title_behind t p.kind p.bytes) ps) refl
+
+drawn_strings : (s : Sets) (ps : List Part) → strings (with_sets s ps) ≡ strings ps
+drawn_strings s [] = refl
+drawn_strings s (p ∷ ps) = rw (drawn_string p.kind s p.bytes, drawn_strings (past s p.kind p.bytes) ps) refl
+
+read_strings : (ps : List Part) → strings (as_read first_reading ps) ≡ strings ps
+read_strings ps = drawn_strings first_sets (with_titles false ps) ∙ titled_strings false ps
+
+-- what is left of parts has the links that are over in these
+one_left : (d : Passing) (r : Rendition) (b : Begun) (k : Kind) (run bytes rest : List ℕ) (own others : List Item) (after : Rendition) → Leaves d r b k bytes own after
+    → links_of others ≡ links_in d.links (begun_behind d b k bytes) rest
+    → links_of (items_behind k run ++ (own ++ others)) ≡ links_in d.links b (string_of (part k bytes) ++ rest)
+one_left d r b Kind.Text run bytes rest own others after (l, same) e = rw (l, e) refl
+one_left d r b Kind.Csi run bytes rest own others after (actions, is, l, same) e = rw (part_links Kind.Csi run own others, l, none_in link_in Style (λ s. refl) _, e) refl
+one_left d r b Kind.Esc run bytes rest own others after (l, same) e = rw (part_links Kind.Esc run own others, l, none_in link_in Style (λ s. refl) _, e) refl
+one_left d r b Kind.Str run bytes rest own others after (l, same) e =
+    rw (part_links Kind.Str run own others, l, each_in link_in Link (λ a. refl) _, e) (sym (links_on d.links bytes rest b))
+one_left d r b k run bytes rest own others after l e = rw (part_links k run own others, l.0, e) refl
+
+links_left : (d : Passing) (r : Rendition) (b : Begun) (run : List ℕ) (ps : List Part) (items : List Item) → AreLeft d r b run ps items
+    → links_of items ≡ links_in d.links b (strings ps)
+links_left d r b run [] items e = ap links_of e ∙ none_in link_in Shown (λ c. refl) (filter shown (lossy_chars run))
+links_left d r b run (p ∷ ps) items (own, others, after, leaves, e, left) =
+    ap links_of e ∙ one_left d r b p.kind run p.bytes (strings ps) own others after leaves
+    (links_left d after (begun_behind d b p.kind p.bytes) (run_behind p.kind run p.bytes) ps others left)
 
 -- one part, and then the others
 one_part : (whole done later : List Part) (k : Kind) (text more : List ℕ) (m a : Mode) (bytes rest : List ℕ) (b : Begun) → IsFirstPart longest m bytes (part k text) rest a
@@ -251,7 +273,7 @@ all_parts whole done (p ∷ sure) m a bytes rest b (behind, mid, one, later) h s
     all_parts whole (done ++ p ∷ []) sure mid a behind rest (all_behind true b (string_of p)) later k (split ∙ sym (append_assoc done (p ∷ []) (sure ++ left_over rest))))
 
 pub in_stream : (d : Passing) (bytes text : List ℕ) (s : StylesIn d bytes text) → AllByRecursion (IsAdmitted (StoodIn s.parts)) (links_of s.items)
-in_stream d bytes text s = rw (links_left d false start false [] s.parts s.items s.left) (by d.links)
+in_stream d bytes text s = rw (links_left d plain_rendition start [] (as_read first_reading s.parts) s.items s.left, read_strings s.parts) (by d.links)
   where
     by : (links : Bool) → AllByRecursion (IsAdmitted (StoodIn s.parts)) (links_in links start (strings s.parts))
     by false = rw (links_none (strings s.parts) start) tt
@@ -306,6 +328,6 @@ passes_in_stream d bytes text s a e stood h =
     let split : strings (stood.before ++ (stood.own ++ stood.rest)) ≡ before ++ (strings stood.own ++ later) = simp flat_map-append in
     let joined = ap strings stood.whole ∙ split ∙ ap (λ (t : List ℕ). before ++ (t ++ later)) (strings_own stood.own stood.string.all ∙ stood.string.joined) in
     let links : links_of s.items ≡ first ++ admitted a ∷ more =
-    links_left d false start false [] s.parts s.items s.left ∙ ap (λ (l : Bool). links_in l start (strings s.parts)) e ∙ ap (links_in true start) joined ∙ links_on true before (stood.text ++ later) start
+    links_left d plain_rendition start [] (as_read first_reading s.parts) s.items s.left ∙ ap (links_in d.links start) (read_strings s.parts) ∙ ap (λ (l : Bool). links_in l start (strings s.parts)) e ∙ ap (links_in true start) joined ∙ links_on true before (stood.text ++ later) start
     ∙ ap (λ (x : List Address). first ++ x) (links_on true stood.text later b ∙ ap (λ (x : List Address). x ++ more) (spelled b a stood.text rest h stood.link)) in
     subst (λ (x : List Address). Contains x (admitted a)) (sym links) (Contains-append_right first (admitted a ∷ more) (admitted a) (0, omega arith, refl))

@@ -1,13 +1,14 @@
 -- A run of a transform, by what its text is, and a stream whose state the caller keeps, step by step.
 use Rattle.std.proofs.Common.{ℕ, ◌≡◌, Option, IfSome, List, [], ◌++◌, ◌∙◌, append_assoc, append-nil, inl, inr, subst, sym, Result, OnOk, OnErr, ◌≤◌, Bool, false, cond, ◌∷◌, length, length-append, take, drop, ◌+◌, ◌-◌, refl, ap, take-append-drop, arith, length-take-le}
 use Rattle.std.proofs.lemmas.List.{take-append-le}
-use Rattle.csicodec_clean.proofs.Common.{on_err_weaker, on_ok_weaker, Consumes, PassesOf, Sends, IsFrontOf, StreamsOne, drop-append-le, take-append_seam, drop-append_seam, concat, text, Kind, Part, IsUnsure, rest_is, RuleOf, AreGiven, AreSteps, IsStep, Strips, drops, ends_bare, longest, Depth, with_titles, AreTaken, GoesBy, Takes, state_of, Keeping, StylesIn, resets, keeps}
-use Rattle.csicodec_clean.proofs.{Chunks.any_chunks, Chunks.unsure_few, Plain.strips, Plain.read_none, Styled.styles}
+use Rattle.csicodec_clean.proofs.Common.{on_err_weaker, on_ok_weaker, Consumes, PassesOf, Sends, IsFrontOf, StreamsOne, drop-append-le, take-append_seam, drop-append_seam, concat, text, Kind, Part, IsUnsure, rest_is, RuleOf, AreGiven, AreSteps, IsStep, Strips, drops, ends_bare, longest, Depth, as_read, AreTaken, GoesBy, Takes, state_of, Keeping, StylesIn, resets, keeps}
+use Rattle.csicodec_clean.proofs.{Chunks.any_chunks, Chunks.unsure_few, Plain.strips, Plain.read_none, Styled.styles, Rendered.unsaved, Rendered.unsaved_by}
 use Rattle.std.specs.Io.KnownBytes.{Appends, IsAtEnd}
 use Rattle.csicodec_transform.specs.Transform.{Begins, EndsOf}
 use Rattle.csicodec_transform.proofs.Sent.{whole_front}
-use Rattle.csicodec_clean.specs.{Streams.Streams, declared.step.Pause.Pause, declared.whole.Dropped.Dropped, Styled.resumed, Styled.without_links}
-use Rattle.csicodec_clean.specs.{Steps.AreStepped, Steps.Resumes, Steps.Steps, Steps.bare, Steps.beginning, Steps.between, Steps.ending}
+use Rattle.csicodec_clean.specs.{Streams.Streams, declared.step.Pause.Pause, declared.whole.Dropped.Dropped, Saving.escape_effect, Styled.Rendition}
+use Rattle.csicodec_clean.specs.{Styled.in_steps, Styled.keeping, Styled.rendition, Styled.resumed, Styled.spelled, Links.start, Steps.AreStepped}
+use Rattle.csicodec_clean.specs.{Steps.Resumes, Steps.Steps, Steps.bare, Steps.beginning, Steps.between, Steps.ending}
 use Rattle.csicodec_base.specs.declared.sgr.Sgr.{Sgr}
 use Rattle.csicodec_actions.specs.Actions as action
 
@@ -84,7 +85,7 @@ module _ {S : Type 0} (P : PassesOf S) (E : EndsOf S) (s : S) (Whole Out : List 
 module _ {S : Type 0} (Gives : RuleOf S) where
   -- a step, by what goes behind the bytes that are held
   resumes : (s t : S) (p q : Pause) (bytes text left rest : List ℕ) → q.held ≡ length left → IsUnsure longest q.mode rest
-      → GoesBy Gives longest (between s p bytes) text (state_of t q.mode q.titled rest left) → Resumes Gives s p bytes text t q (left ++ rest)
+      → GoesBy Gives longest (between s p bytes) text (state_of t q.mode q.reading rest left) → Resumes Gives s p bytes text t q (left ++ rest)
   resumes s t p q bytes text left rest n unsure goes again more e low =
       let now : take q.held (left ++ rest) ≡ left = rw n (take-append_seam left rest) in
       let later : drop q.held (left ++ rest) ≡ rest = rw n (drop-append_seam left rest) in
@@ -92,7 +93,7 @@ module _ {S : Type 0} (Gives : RuleOf S) where
 
   pub stepped : (s t : S) (p q : Pause) (bytes text before left rest : List ℕ) (used : ℕ) → take p.held bytes ++ drop p.held bytes ≡ before ++ (left ++ rest)
       → p.held ≤ length bytes → q.held ≡ length left → used ≡ length bytes - (length left + length rest) → (length (take p.held bytes) ≤ 3 → length left ≤ 3) → IsUnsure longest q.mode rest
-      → GoesBy Gives longest (between s p bytes) text (state_of t q.mode q.titled rest left) → Steps Gives s p bytes text t q (drop used bytes)
+      → GoesBy Gives longest (between s p bytes) text (state_of t q.mode q.reading rest left) → Steps Gives s p bytes text t q (drop used bytes)
   stepped s t p q bytes text before left rest used split fits n u few unsure goes =
       let size : length (left ++ rest) ≡ length left + length rest = length-append left rest in
       let whole : bytes ≡ before ++ (left ++ rest) = sym (take-append-drop p.held bytes) ∙ split in
@@ -123,8 +124,10 @@ same_behind (b ∷ bytes) d t text after (first, mid, others, byte, e, rest) =
 
 resumed_step : (k : Kind) (d : Depth) (t : Bool) (run bytes text : List ℕ) (after : Keeping) (left : List ℕ)
     → IsStep keeps k (resumed d t) run bytes text after left → (u : Bool) × (after ≡ resumed d u)
-resumed_step Kind.Csi d t run bytes text after left (own, (actions, is, out, same), e, none) = (_, same)
-resumed_step Kind.Esc d t run bytes text after left (own, (out, same), e, none) = (_, same)
+resumed_step Kind.Csi d t run bytes text after left (own, (actions, is, gives), e, none) =
+    let (u, same) = unsaved d t actions in (u, (gives (rendition t [] []) refl).1 ∙ ap (λ (x : Rendition). keeping (in_steps d) (spelled x) false start) same)
+resumed_step Kind.Esc d t run bytes text after left (own, gives, e, none) =
+    let (u, same) = unsaved_by d t (escape_effect bytes) in (u, (gives (rendition t [] []) refl).1 ∙ ap (λ (x : Rendition). keeping (in_steps d) (spelled x) false start) same)
 resumed_step Kind.Str d t run bytes text after left (own, given, e, none) = (t, same_behind bytes d t own after given)
 resumed_step _ d t run bytes text after left h = (t, h.1)
 
@@ -136,15 +139,15 @@ resumed_steps (p ∷ ps) d t run text after left (first, mid, next, others, step
     resumed_steps ps d u next others after left (subst (λ (k : Keeping). AreSteps keeps k next ps others after left) same rest)
 
 -- so the state behind a step is plain data, too
-pub styled_steps : (d : Depth) (t u : Bool) (s k : Keeping) (p q : Pause) (bytes made rest : List ℕ) → s ≡ resumed d t → u ≡ k.styled
+pub styled_steps : (d : Depth) (t u : Bool) (s k : Keeping) (p q : Pause) (bytes made rest : List ℕ) → s ≡ resumed d t → u ≡ k.rendition.styled
     → p.held ≤ length bytes → Steps keeps s p bytes made k q rest
-    → Steps keeps (resumed d t) p bytes made (resumed d u) (record { mode = q.mode; titled = q.titled; styled = u; held = q.held }) rest
+    → Steps keeps (resumed d t) p bytes made (resumed d u) (record { mode = q.mode; reading = q.reading; styled = u; held = q.held }) rest
 styled_steps d t u s k p q bytes made rest is same_styled low h =
     let began : Steps keeps (resumed d t) p bytes made k q rest = subst (λ (x : Keeping). Steps keeps x p bytes made k q rest) is h in
     let held = take p.held bytes in
     let g = (began.takes bytes [] (sym (append-nil bytes)) low).goes held [] (read_none held) in
-    let (v, same) = resumed_steps (with_titles p.titled g.parts) d t held g.text k g.left g.steps in
-    let last : k ≡ resumed d u = same ∙ ap (λ (b : Bool). resumed d b) (sym (ap (λ (x : Keeping). x.styled) same) ∙ sym same_styled) in
+    let (v, same) = resumed_steps (as_read p.reading g.parts) d t held g.text k g.left g.steps in
+    let last : k ≡ resumed d u = same ∙ ap (λ (b : Bool). resumed d b) (sym (ap (λ (x : Keeping). x.rendition.styled) same) ∙ sym same_styled) in
     record {
       takes = subst (λ (x : Keeping). Resumes keeps (resumed d t) p bytes made x q rest) last began.takes;
       held = h.held;
@@ -161,9 +164,9 @@ stripped_steps chunks made rest last stepped none =
     rw none (strips longest bare (concat chunks) _ (any_chunks {S = Dropped} drops ends_bare bare chunks made [] (between bare last rest) taken refl))
 
 pub cleaned_steps : (d : Depth) (chunks : List (List ℕ)) (made rest : List ℕ) (last : Pause) → AreStepped keeps (resumed d) beginning [] chunks made last rest
-    → StylesIn (without_links d) (concat chunks) (made ++ ending last rest)
+    → StylesIn (in_steps d) (concat chunks) (made ++ ending last rest)
 cleaned_steps d chunks made rest last stepped =
     let taken = stepped_taken keeps (resumed d) beginning last [] chunks made rest (omega arith) stepped in
     let close = cond last.styled (text (action.Sgr Sgr.Reset)) [] in
     let ends = any_chunks keeps resets (resumed d false) chunks made close (between (resumed d last.styled) last rest) taken refl in
-    styles (without_links d) (resumed d false) (concat chunks) (made ++ ending last rest) refl ends
+    styles (in_steps d) (resumed d false) (concat chunks) (made ++ ending last rest) refl ends

@@ -1,30 +1,21 @@
 -- Styles and links that stay between the runs of text, and that what stays is safe by its bytes alone.
-use Rattle.std.proofs.Common.{◌≡◌, ℕ, Bool, true, false, List, [], ◌∷◌, ◌++◌, map, encode_utf8_all, length, refl, sym, ap, subst, ◌∙◌, append_assoc, append-nil, arith, filter, not, ◌==◌, if◌then◌else◌, flat_map, ◌<◌, ◌≤◌, ◌+◌, ◌/◌, ◌%◌, ◌⊎◌, inl, inr, ne_eqb, ◌&&◌}
+use Rattle.std.proofs.Common.{◌≡◌, ℕ, Option, Some, None, Bool, true, false, List, [], ◌∷◌, ◌++◌, map, encode_utf8_all, length, refl, sym, ap, subst, ◌∙◌, append_assoc, append-nil, arith, filter, not, ◌==◌, if◌then◌else◌, flat_map, ◌<◌, ◌≤◌, ◌+◌, ◌/◌, ◌%◌, ◌⊎◌, inl, inr, ne_eqb, ◌&&◌}
 use Rattle.std.proofs.lemmas.List.Folds.{flat_map-map}
-use Rattle.csicodec_clean.proofs.Common.{and_parts, cond_both, flat_map-append, map-append, AllByRecursion, all_scalars, scalar, lossy_chars, Action, text, texts, ReadsAlone, Kind, Part, Address, Begun, IsLink, IsWithin, all_behind, is_linked, link_text, links_at, links_in, next, start, Item, Shown, Style, Link, item_texts, shown_items, Leaves, begun_behind, run_behind, items_behind, AreLeft, styles_of, link_in, links_of, ends_of, StylesIn, IsSafe, IsStyledIn, Keeping, keeping, first_kept, keeps, resets, shown, shown_text, IsShown, with_titles, AreGiven, IsStep, AreSteps, Ends, longest, Depth, reduced, Passing, nat_tests, SgrInRange, hides, is_param, is_visible}
+use Rattle.csicodec_clean.proofs.Common.{and_parts, cond_both, flat_map-append, AllByRecursion, all_scalars, scalar, lossy_chars, Action, text, ReadsAlone, Kind, Part, Address, Begun, IsLink, IsWithin, all_behind, is_linked, link_text, links_at, links_in, next, start, Item, Shown, Style, Link, item_texts, shown_items, Leaves, begun_behind, run_behind, items_behind, AreLeft, styles_of, link_in, links_of, ends_of, StylesIn, IsSafe, IsStyledIn, Keeping, keeping, first_kept, keeps, resets, shown, shown_text, IsShown, as_read, first_reading, AreGiven, IsStep, AreSteps, Ends, longest, Passing, nat_tests, SgrInRange, hides, is_param, is_visible}
 use Rattle.csicodec_clean.proofs.{Linked.fine_behind, Linked.fine_links, Linked.linked_on, Linked.links_none, Reduced.reduced_alone, Reduced.reduced_hides}
 use Rattle.csicodec_clean.proofs.{Reduced.reduced_twice, Plain.kept_shown, Plain.scalars_lossy, Plain.all_both, Taken.StyleAlone, Taken.taken_alone}
-use Rattle.csicodec_clean.proofs.{Coded.AreCodes, Coded.IsCode, Coded.coded, Coded.style_range}
-use Rattle.std.specs.Char.{encode_utf8}
+use Rattle.csicodec_clean.proofs.{Coded.AreCodes, Coded.IsCode, Coded.coded, Coded.style_range, Rendered.all_settled, Rendered.all_since, Rendered.open_by}
+use Rattle.csicodec_clean.proofs.{Rendered.open_in, Rendered.open_on}
+use Rattle.std.specs.{Char.encode_utf8, Str.bytes_eq, Prelude.slice_index}
 use Rattle.csicodec_base.specs.declared.sgr.Sgr.{Sgr}
 use Rattle.csicodec_streams.proofs.Exactly.{round_trip_lem}
-use Rattle.csicodec_terminal.specs.Terminal.{Terminal}
-use Rattle.csicodec_tokens.specs.{declared.param.CsiParam.CsiParam, Sequence.Seq}
-use Rattle.csicodec_clean.specs.Styled.{is_reset, kept, item_text, is_open, is_decstr, set_back, styled_behind, styles_at, styles_in, style_in, closed}
-use Rattle.csicodec_clean.specs.{Saving.clears, Saving.escape_effect, Links.behind, Links.link_texts, Links.no_address, Marked.Stand, Marked.Text}
-use Rattle.csicodec_clean.specs.{Marked.Numbers, Marked.Params, Marked.Url, Marked.stand_behind, Marked.is_marked, Marked.IsMarked}
+use Rattle.csicodec_actions.specs.{declared.cursor.Cursor.Cursor, declared.mode.DecPrivateMode.DecPrivateMode, declared.mode.Mode.Mode as ModeAction}
+use Rattle.csicodec_clean.specs.Styled.{Rendition, Spelled, behind_styles, brought_back, closed, is_open, is_reset, item_text, plain_rendition, rendition, rendition_by, rendition_in, set_back, settled, since_behind, spelled, style_in, style_texts, styles_by, styles_in}
+use Rattle.csicodec_clean.specs.{declared.saving.Effect.Effect, Saving.by_final, Saving.effect_of, Saving.escape_effect, Saving.if_saving, Saving.is_saving}
+use Rattle.csicodec_clean.specs.{Private.Notes.stays, Links.behind, Links.link_texts, Links.no_address, Marked.Stand, Marked.Text, Marked.Numbers}
+use Rattle.csicodec_clean.specs.{Marked.Params, Marked.Url, Marked.stand_behind, Marked.is_marked, Marked.IsMarked}
+use Rattle.csicodec_actions.specs.Devices as device
 use Rattle.csicodec_actions.specs.Actions as action
-
--- ---- one action behind the other
-
-pub kept_on : (d : Depth) (xs ys : List Action) → kept d (xs ++ ys) ≡ kept d xs ++ kept d ys
-kept_on d [] ys = refl
-kept_on d (action.Sgr s ∷ xs) ys = rw (kept_on d xs ys) (grind arith)
-kept_on d (_ ∷ xs) ys = kept_on d xs ys
-
-pub open_on : (b : Bool) (xs ys : List Sgr) → is_open b (xs ++ ys) ≡ is_open (is_open b xs) ys
-open_on b [] ys = refl
-open_on b (x ∷ xs) ys = open_on (not (is_reset x)) xs ys
 
 -- ---- items
 
@@ -71,11 +62,11 @@ end_texts linked styled = grind (arith, append-nil {A = ℕ})
 
 -- behind bytes of a control string
 abbrev pub behind_string : Keeping → List ℕ → Keeping
-behind_string k bytes = keeping k.passing k.styled (is_linked k.linked (links_in k.passing.links k.begun bytes)) (all_behind k.passing.links k.begun bytes)
+behind_string k bytes = keeping k.passing k.rendition (is_linked k.linked (links_in k.passing.links k.begun bytes)) (all_behind k.passing.links k.begun bytes)
 
 -- the rule that keeps, on a byte of a control string, where links pass
 pub gives_link : (k : Keeping) (c : ℕ) → k.passing.links ≡ true
-    → keeps.byte k c (link_texts (links_at true k.begun c)) (keeping k.passing k.styled (is_linked k.linked (links_at true k.begun c)) (behind k.begun c))
+    → keeps.byte k c (link_texts (links_at true k.begun c)) (keeping k.passing k.rendition (is_linked k.linked (links_at true k.begun c)) (behind k.begun c))
 gives_link k c e = rw e (refl, refl)
 
 -- and where they don't
@@ -89,96 +80,111 @@ given_string (c ∷ bytes) k after text (first, mid, others, here, e, rest) =
     let r = given_string bytes mid after others rest in
     (rw (e, here.0, r.0, here.1) (simp flat_map-append), rw (r.1, here.1, linked_on) refl)
 
-record Left (parts : List Part) (k : Keeping) (run text : List ℕ) (after : Keeping) (last : List ℕ) : Type 0 where
+record Left (parts : List Part) (k : Keeping) (r : Rendition) (run text : List ℕ) (after : Keeping) (last : List ℕ) : Type 0 where
   items : List Item
-  left : AreLeft k.passing k.styled k.begun run parts items
+  left : AreLeft k.passing r k.begun run parts items
   all : text ++ shown_text last ≡ item_texts items
-  styled : after.styled ≡ is_open k.styled (styles_of items)
+  styled : after.rendition.styled ≡ is_open r.styled (styles_of items)
   linked : after.linked ≡ is_linked k.linked (links_of items)
 
 -- what a step of the rule gives is the text of what its part leaves
-pub record Step (kind : Kind) (k mid : Keeping) (run bytes first next : List ℕ) : Type 0 where
+pub record Step (kind : Kind) (k : Keeping) (r : Rendition) (mid : Keeping) (run bytes first next : List ℕ) : Type 0 where
   pub own : List Item
-  pub leaves : Leaves k.passing k.styled k.begun kind bytes own
+  pub after : Rendition
+  pub leaves : Leaves k.passing r k.begun kind bytes own after
   pub text : (others : List Item) → item_texts (items_behind kind run ++ (own ++ others)) ≡ first ++ item_texts others
   pub next_run : next ≡ run_behind kind run bytes
-  pub state : mid ≡ keeping k.passing (styled_behind k.styled kind own) (is_linked k.linked (links_of own)) (begun_behind k.passing k.begun kind bytes)
-  pub opens : styled_behind k.styled kind own ≡ is_open k.styled (styles_of own)
+  pub state : mid ≡ keeping k.passing (spelled after) (is_linked k.linked (links_of own)) (begun_behind k.passing k.begun kind bytes)
+  pub opens : after.styled ≡ is_open r.styled (styles_of own)
+
+rendered_as : (k : Keeping) (x : Spelled) → k.rendition ≡ x → k ≡ keeping k.passing x k.linked k.begun
+rendered_as k x e = ap (λ (y : Spelled). keeping k.passing y k.linked k.begun) e
 
 -- where it ends the run
 ended : (run first given : List ℕ) (own others : List Item) → first ≡ shown_text run ++ given → item_texts own ≡ given
     → item_texts (shown_items run ++ (own ++ others)) ≡ first ++ item_texts others
 ended run first given own others e same = rw (part_texts run own others, e, same) (simp append_assoc)
 
-pub step : (kind : Kind) (k mid : Keeping) (run bytes first next : List ℕ) → IsStep keeps kind k run bytes first mid next → Step kind k mid run bytes first next
-step Kind.Text k mid run bytes first next (none, same, on) = record { own = []; leaves = refl; text = λ others. rw none refl; next_run = on; state = same; opens = refl }
-step Kind.Csi k mid run bytes first next (given, (actions, is, same, state), e, none) =
-    let ss = styles_in k.passing.depth k.styled bytes actions in
+pub step : (kind : Kind) (k : Keeping) (r : Rendition) (mid : Keeping) (run bytes first next : List ℕ) → k.rendition ≡ spelled r → IsStep keeps kind k run bytes first mid next
+    → Step kind k r mid run bytes first next
+step Kind.Text k r mid run bytes first next of (none, same, on) =
+    record { own = []; after = r; leaves = (refl, refl); text = λ others. rw none refl; next_run = on; state = same ∙ rendered_as k (spelled r) of; opens = refl }
+step Kind.Csi k r mid run bytes first next of (given, (actions, is, gives), e, none) =
+    let ss = styles_in k.passing r actions in
+    let (same, state) = gives r of in
     record {
       own = map Style ss;
-      leaves = (actions, is, refl);
+      after = rendition_in k.passing r actions;
+      leaves = (actions, is, refl, refl);
       text = λ others. ended run first given (map Style ss) others e ((simp flat_map-map) ∙ sym same);
       next_run = none;
-      state = rw (state, each_in style_in Style (λ s. refl) ss, none_in link_in Style (λ s. refl) ss) refl;
-      opens = refl;
+      state = rw (state, none_in link_in Style (λ s. refl) ss) refl;
+      opens = rw (each_in style_in Style (λ s. refl) ss) (open_in k.passing r actions);
     }
-step Kind.Esc k mid run bytes first next (given, (same, state), e, none) =
-    let ss = styles_at k.styled bytes in
+step Kind.Esc k r mid run bytes first next of (given, gives, e, none) =
+    let ss = styles_by k.passing r (escape_effect bytes) in
+    let (same, state) = gives r of in
     record {
       own = map Style ss;
-      leaves = refl;
+      after = rendition_by k.passing r (escape_effect bytes);
+      leaves = (refl, refl);
       text = λ others. ended run first given (map Style ss) others e ((simp flat_map-map) ∙ sym same);
       next_run = none;
-      state = rw (state, each_in style_in Style (λ s. refl) ss, none_in link_in Style (λ s. refl) ss) refl;
-      opens = refl;
+      state = rw (state, none_in link_in Style (λ s. refl) ss) refl;
+      opens = rw (each_in style_in Style (λ s. refl) ss) (open_by k.passing r (escape_effect bytes));
     }
-step Kind.Str k mid run bytes first next (given, steps, e, none) =
+step Kind.Str k r mid run bytes first next of (given, steps, e, none) =
     let g = given_string bytes k mid given steps in
     let links = links_in k.passing.links k.begun bytes in
     record {
       own = map Link links;
-      leaves = refl;
+      after = r;
+      leaves = (refl, refl);
       text = λ others. ended run first given (map Link links) others e (flat_map-map item_text Link links ∙ sym g.0);
       next_run = none;
-      state = rw (g.1, each_in link_in Link (λ a. refl) links) refl;
+      state = rw (g.1, each_in link_in Link (λ a. refl) links, of) refl;
       opens = rw (none_in style_in Link (λ a. refl) links) refl;
     }
-step _ k mid run bytes first next h =
+step _ k r mid run bytes first next of h =
     let e = h.0 ∙ sym (append-nil (shown_text run)) in
-    record { own = []; leaves = refl; text = λ others. ended run first [] [] others e refl; next_run = h.2; state = h.1; opens = refl }
+    record { own = []; after = r; leaves = (refl, refl); text = λ others. ended run first [] [] others e refl; next_run = h.2; state = h.1 ∙ rendered_as k (spelled r) of; opens = refl }
 
-left_of : (parts : List Part) (k after : Keeping) (run text last : List ℕ) → AreSteps keeps k run parts text after last → Left parts k run text after last
-left_of [] k after run text last (none, same, e) =
+joined_open : (t : Bool) (k : Kind) (run : List ℕ) (own others : List Item) → is_open (is_open t (styles_of own)) (styles_of others) ≡ is_open t (styles_of (items_behind k run ++ (own ++ others)))
+joined_open t k run own others = rw (part_styles k run own others, open_on) refl
+
+left_of : (parts : List Part) (k after : Keeping) (r : Rendition) (run text last : List ℕ) → k.rendition ≡ spelled r → AreSteps keeps k run parts text after last
+    → Left parts k r run text after last
+left_of [] k after r run text last of (none, same, e) =
     let chars = filter shown (lossy_chars run) in
     record {
       items = shown_items run;
       left = refl;
       all = rw (none, e) (sym (texts_chars chars));
-      styled = rw (same, none_in style_in Shown (λ c. refl) chars) refl;
+      styled = rw (same, none_in style_in Shown (λ c. refl) chars, of) refl;
       linked = rw (same, none_in link_in Shown (λ c. refl) chars) refl;
     }
-left_of (p ∷ parts) k after run text last (first, mid, next, others, is, e, rest) =
-    let h = step p.kind k mid run p.bytes first next is in
-    let r = left_of parts mid after next others last rest in
-    let left = subst (λ (x : Keeping). AreLeft x.passing x.styled x.begun (run_behind p.kind run p.bytes) parts r.items) h.state
-    (subst (λ (y : List ℕ). AreLeft mid.passing mid.styled mid.begun y parts r.items) h.next_run r.left) in
+left_of (p ∷ parts) k after r run text last of (first, mid, next, others, is, e, rest) =
+    let h = step p.kind k r mid run p.bytes first next of is in
+    let l = left_of parts mid after h.after next others last (ap (λ (x : Keeping). x.rendition) h.state) rest in
+    let left = subst (λ (x : Keeping). AreLeft x.passing h.after x.begun (run_behind p.kind run p.bytes) parts l.items) h.state
+    (subst (λ (y : List ℕ). AreLeft mid.passing h.after mid.begun y parts l.items) h.next_run l.left) in
     record {
-      items = items_behind p.kind run ++ (h.own ++ r.items);
-      left = (h.own, r.items, h.leaves, refl, left);
-      all = rw (e, h.text r.items, ← r.all) (append_assoc first others (shown_text last));
-      styled = r.styled ∙ ap (λ (x : Keeping). is_open x.styled (styles_of r.items)) h.state ∙ (rw (h.opens, part_styles p.kind run h.own r.items, open_on) refl);
-      linked = r.linked ∙ ap (λ (x : Keeping). is_linked x.linked (links_of r.items)) h.state ∙ (rw (part_links p.kind run h.own r.items, linked_on) refl);
+      items = items_behind p.kind run ++ (h.own ++ l.items);
+      left = (h.own, l.items, h.after, h.leaves, refl, left);
+      all = rw (e, h.text l.items, ← l.all) (append_assoc first others (shown_text last));
+      styled = l.styled ∙ ap (λ (t : Bool). is_open t (styles_of l.items)) h.opens ∙ joined_open r.styled p.kind run h.own l.items;
+      linked = l.linked ∙ ap (λ (x : Keeping). is_linked x.linked (links_of l.items)) h.state ∙ (rw (part_links p.kind run h.own l.items, linked_on) refl);
     }
 
 -- what the rule that keeps styles and links leaves, and what ends them where they are open
 pub styles : (d : Passing) (k : Keeping) (bytes out : List ℕ) → k ≡ first_kept d → Ends keeps resets longest k bytes out → StylesIn d bytes out
 styles d k bytes out begins ends =
     let e : Ends keeps resets longest (first_kept d) bytes out = rw begins at ends in
-    let l = left_of (with_titles false e.parts) (first_kept d) e.after [] e.before e.run e.steps in
+    let l = left_of (as_read first_reading e.parts) (first_kept d) e.after plain_rendition [] e.before e.run refl e.steps in
     let linked = is_linked false (links_of l.items) in
     let styled = is_open false (styles_of l.items) in
     let close : e.close ≡ item_texts (ends_of linked styled) =
-    e.closes ∙ ap (λ (b : Bool). end_text b e.after.styled) l.linked ∙ ap (end_text linked) l.styled ∙ end_texts linked styled in
+    e.closes ∙ ap (λ (b : Bool). end_text b e.after.rendition.styled) l.linked ∙ ap (end_text linked) l.styled ∙ end_texts linked styled in
     record {
       parts = e.parts;
       whole = e.whole;
@@ -198,12 +204,6 @@ safe_chars d (c ∷ cs) a h = let both = and_parts (scalar c) (all_scalars cs) a
 safe_run : (d : Passing) (run : List ℕ) → AllByRecursion (IsSafe d) (shown_items run)
 safe_run d run = let k = kept_shown (lossy_chars run) (scalars_lossy run) in safe_chars d (filter shown (lossy_chars run)) k.0 k.1
 
-safe_kept : (d : Passing) (actions : List Action) → AllByRecursion StyleAlone actions → AllByRecursion (IsSafe d) (map Style (kept d.depth actions))
-safe_kept d [] all = tt
-safe_kept d (action.Sgr s ∷ xs) all =
-    grind (arith, safe_kept d xs all.1, reduced_hides d.depth s, reduced_alone d.depth s all.0, reduced_twice d.depth s)
-safe_kept d (x ∷ xs) all = safe_kept d xs all.1
-
 reset_alone : ReadsAlone (action.Sgr Sgr.Reset) false
 reset_alone = (round_trip_lem [] false 109 tt (omega arith, omega arith) (action.Sgr Sgr.Reset ∷ []) refl).attributes Sgr.Reset (0, omega arith, refl)
 
@@ -211,40 +211,81 @@ reset_alone = (round_trip_lem [] false 109 tt (omega arith, omega arith) (action
 reset_safe : (d : Passing) → IsSafe d (Style Sgr.Reset)
 reset_safe d = (refl, reset_alone, refl)
 
-safe_back : (d : Passing) (t : Bool) → AllByRecursion (IsSafe d) (map Style (set_back t))
+-- such a style, such styles, and a rendition that has only such
+abbrev SafeStyle : Passing → Sgr → Type 0
+SafeStyle d s = IsSafe d (Style s)
+
+abbrev AreSafe : Passing → List Sgr → Type 0
+AreSafe d ss = AllByRecursion (SafeStyle d) ss
+
+abbrev SafeRendition : Passing → Rendition → Type 0
+SafeRendition d r = AreSafe d r.since × AreSafe d r.saved
+
+safe_styles : (d : Passing) (ss : List Sgr) → AreSafe d ss → AllByRecursion (IsSafe d) (map Style ss)
+safe_styles d [] h = tt
+safe_styles d (s ∷ ss) h = (h.0, safe_styles d ss h.1)
+
+safe_back : (d : Passing) (t : Bool) → AreSafe d (set_back t)
 safe_back d true = (reset_safe d, tt)
 safe_back d false = tt
 
-safe_in : (d : Passing) (t : Bool) (bytes : List ℕ) (actions : List Action) → AllByRecursion StyleAlone actions → AllByRecursion (IsSafe d) (map Style (styles_in d.depth t bytes actions))
-safe_in d t bytes actions all =
-    cond_both (is_decstr bytes) (set_back t) (kept d.depth actions) (λ (ss : List Sgr). AllByRecursion (IsSafe d) (map Style ss)) (λ _. safe_back d t) (λ _. safe_kept d actions all)
+safe_brought : (d : Passing) (r : Rendition) → SafeRendition d r → AreSafe d (brought_back r)
+safe_brought d r h =
+    cond_both (bytes_eq (style_texts (settled r.saved)) (style_texts (settled r.since))) [] (set_back r.styled ++ settled r.saved) (AreSafe d) (λ _. tt)
+    (λ _. all_both (SafeStyle d) (set_back r.styled) (settled r.saved) (safe_back d r.styled) (all_settled (SafeStyle d) r.saved h.1))
 
-safe_at : (d : Passing) (t : Bool) (bytes : List ℕ) → AllByRecursion (IsSafe d) (map Style (styles_at t bytes))
-safe_at d t bytes = cond_both (clears (escape_effect bytes)) (set_back t) [] (λ (ss : List Sgr). AllByRecursion (IsSafe d) (map Style ss)) (λ _. safe_back d t) (λ _. tt)
+-- a style that comes is read alone
+abbrev AloneBy : Option Effect → Type 0
+AloneBy (Some (Effect.Sets s)) = ReadsAlone (action.Sgr s) false
+AloneBy e = Unit {0}
 
--- behind it none is open
-pub back_shut : (t : Bool) → false ≡ is_open t (set_back t)
-back_shut true = refl
-back_shut false = refl
+safe_set : (d : Passing) (s : Sgr) → ReadsAlone (action.Sgr s) false → AreSafe d (stays d.depth (Some (Effect.Sets s)))
+safe_set d s h = grind (arith, reduced_hides d.depth s, reduced_alone d.depth s h, reduced_twice d.depth s)
 
--- what the rule that keeps gives for a control sequence, which is DECSTR or another
-pub sequence_back : (k : Keeping) (bytes : List ℕ) (list : List CsiParam) (final : ℕ) (actions : List Action) (t : Bool) → Seq bytes list final → Terminal list false final actions
-    → is_decstr bytes ≡ true → t ≡ is_open k.styled (set_back k.styled)
-    → keeps.sequence k bytes (texts (map action.Sgr (set_back k.styled))) (keeping k.passing t k.linked k.begun)
-sequence_back k bytes list final actions t seq are e shut = rw (e, shut) (actions, (list, final, seq, are), refl, refl)
+safe_on : (d : Passing) (r : Rendition) (ss : List Sgr) → SafeRendition d r → AreSafe d ss → SafeRendition d (behind_styles d r ss)
+safe_on d r ss h k = (cond_both d.restores (since_behind r.since ss) r.since (AreSafe d) (λ _. all_since (SafeStyle d) r.since ss h.0 k) (λ _. h.0), h.1)
 
-pub sequence_kept : (k : Keeping) (bytes : List ℕ) (list : List CsiParam) (final : ℕ) (actions : List Action) (t : Bool) → Seq bytes list final → Terminal list false final actions
-    → is_decstr bytes ≡ false → t ≡ is_open k.styled (kept k.passing.depth actions)
-    → keeps.sequence k bytes (texts (map action.Sgr (kept k.passing.depth actions))) (keeping k.passing t k.linked k.begun)
-sequence_kept k bytes list final actions t seq are e now = rw (e, now) (actions, (list, final, seq, are), refl, refl)
+safe_by : (d : Passing) (r : Rendition) (e : Option Effect) → SafeRendition d r → AloneBy e → AreSafe d (styles_by d r e) × SafeRendition d (rendition_by d r e)
+safe_by d r None h alone = (tt, safe_on d r [] h tt)
+safe_by d r (Some (Effect.Sets s)) h alone = let own = safe_set d s alone in (own, safe_on d r (stays d.depth (Some (Effect.Sets s))) h own)
+safe_by d r (Some Effect.Clears) h alone = (safe_back d r.styled, (tt, tt))
+safe_by d r (Some Effect.Saves) h alone =
+    (tt, cond_both d.restores (rendition r.styled r.since r.since) r (SafeRendition d) (λ _. (h.0, h.0)) (λ _. h))
+safe_by d r (Some Effect.Restores) h alone = (
+  cond_both d.restores (brought_back r) [] (AreSafe d) (λ _. safe_brought d r h) (λ _. tt),
+  cond_both d.restores (rendition (is_open r.styled (brought_back r)) r.saved r.saved) r (SafeRendition d) (λ _. (h.1, h.1)) (λ _. h),
+)
 
--- and for an escape sequence, which is RIS or another
-pub escape_back : (k : Keeping) (bytes : List ℕ) (t : Bool) → clears (escape_effect bytes) ≡ true → t ≡ is_open k.styled (set_back k.styled)
-    → keeps.escape k bytes (texts (map action.Sgr (set_back k.styled))) (keeping k.passing t k.linked k.begun)
-escape_back k bytes t e shut = rw (e, shut) (refl, refl)
+mode_alone : (e : Effect) (m : DecPrivateMode) → AloneBy (Some e) → AloneBy (if_saving e m)
+mode_alone e (DecPrivateMode.Code c) h = cond_both (is_saving c) (Some e) None AloneBy (λ _. h) (λ _. tt)
+mode_alone e (DecPrivateMode.Unspecified n) h = tt
 
-pub escape_none : (k : Keeping) (bytes : List ℕ) → clears (escape_effect bytes) ≡ false → keeps.escape k bytes [] k
-escape_none k bytes e = rw e (refl, refl)
+alone_by : (a : Action) → StyleAlone a → AloneBy (effect_of a)
+alone_by (action.Sgr s) h = h
+alone_by (action.Cursor Cursor.SaveCursor) h = tt
+alone_by (action.Cursor Cursor.RestoreCursor) h = tt
+alone_by (action.Cursor _) h = tt
+alone_by (action.Mode (ModeAction.SetDecPrivateMode m)) h = mode_alone Effect.Saves m tt
+alone_by (action.Mode (ModeAction.ResetDecPrivateMode m)) h = mode_alone Effect.Restores m tt
+alone_by (action.Mode _) h = tt
+alone_by (action.Device device.SoftReset) h = tt
+alone_by (action.Device _) h = tt
+alone_by _ h = tt
+
+escape_alone : (bytes : List ℕ) → AloneBy (escape_effect bytes)
+escape_alone bytes = cond_both (length bytes == 2) (by_final (slice_index bytes 1)) None AloneBy (λ _. final (slice_index bytes 1)) (λ _. tt)
+  where
+    final : (c : ℕ) → AloneBy (by_final c)
+    final c = cond_both (c == 55) (Some Effect.Saves) _ AloneBy (λ _. tt)
+        (λ _. cond_both (c == 56) (Some Effect.Restores) _ AloneBy (λ _. tt) (λ _. cond_both (c == 99) (Some Effect.Clears) None AloneBy (λ _. tt) (λ _. tt)))
+
+safe_in : (d : Passing) (r : Rendition) (actions : List Action) → SafeRendition d r → AllByRecursion StyleAlone actions
+    → AreSafe d (styles_in d r actions) × SafeRendition d (rendition_in d r actions)
+safe_in d r [] h all = (tt, h)
+safe_in d r (a ∷ actions) h all =
+    let (own, behind) = safe_by d r (effect_of a) h (alone_by a all.0) in
+    let (others, last) = safe_in d (rendition_by d r (effect_of a)) actions behind all.1 in
+    (all_both (SafeStyle d) (styles_by d r (effect_of a)) (styles_in d (rendition_by d r (effect_of a)) actions) own others, last)
 
 safe_links : (d : Passing) (bytes : List ℕ) (b : Begun) → IsWithin b.address → AllByRecursion (IsSafe d) (map Link (links_in d.links b bytes))
 safe_links d bytes b h = by d.links refl
@@ -257,11 +298,15 @@ safe_links d bytes b h = by d.links refl
     by true e = all (links_in true b bytes) e (fine_links true bytes b h)
     by false e = rw (links_none bytes b) tt
 
-safe_part : (d : Passing) (t : Bool) (b : Begun) (k : Kind) (bytes : List ℕ) (own : List Item) → IsWithin b.address → Leaves d t b k bytes own → AllByRecursion (IsSafe d) own
-safe_part d t b Kind.Csi bytes own h (actions, is, e) = rw e (safe_in d t bytes actions (taken_alone bytes actions is))
-safe_part d t b Kind.Esc bytes own h e = rw e (safe_at d t bytes)
-safe_part d t b Kind.Str bytes own h e = rw e (safe_links d bytes b h)
-safe_part d t b _ bytes own h e = rw e tt
+safe_part : (d : Passing) (r : Rendition) (b : Begun) (k : Kind) (bytes : List ℕ) (own : List Item) (after : Rendition) → IsWithin b.address → SafeRendition d r
+    → Leaves d r b k bytes own after → AllByRecursion (IsSafe d) own × SafeRendition d after
+safe_part d r b Kind.Csi bytes own after h safe (actions, is, e, f) =
+    let (ss, behind) = safe_in d r actions safe (taken_alone bytes actions is) in (rw e (safe_styles d (styles_in d r actions) ss), rw f behind)
+safe_part d r b Kind.Esc bytes own after h safe (e, f) =
+    let effect = escape_effect bytes in
+    let (ss, behind) = safe_by d r effect safe (escape_alone bytes) in (rw e (safe_styles d (styles_by d r effect) ss), rw f behind)
+safe_part d r b Kind.Str bytes own after h safe (e, f) = (rw e (safe_links d bytes b h), rw f safe)
+safe_part d r b _ bytes own after h safe l = (rw l.0 tt, rw l.1 safe)
 
 safe_behind : (d : Passing) (k : Kind) (run : List ℕ) → AllByRecursion (IsSafe d) (items_behind k run)
 safe_behind d Kind.Text run = tt
@@ -271,11 +316,13 @@ fine_part : (d : Passing) (b : Begun) (k : Kind) (bytes : List ℕ) → IsWithin
 fine_part d b Kind.Str bytes h = fine_behind d.links bytes b h
 fine_part d b _ bytes h = h
 
-safe_left : (d : Passing) (t : Bool) (b : Begun) (parts : List Part) (run : List ℕ) (items : List Item) → IsWithin b.address → AreLeft d t b run parts items → AllByRecursion (IsSafe d) items
-safe_left d t b [] run items h e = rw e (safe_run d run)
-safe_left d t b (p ∷ parts) run items h (own, others, leaves, e, rest) =
-    let later = safe_left d (styled_behind t p.kind own) (begun_behind d b p.kind p.bytes) parts (run_behind p.kind run p.bytes) others (fine_part d b p.kind p.bytes h) rest in
-    rw e (all_both (IsSafe d) (items_behind p.kind run) (own ++ others) (safe_behind d p.kind run) (all_both (IsSafe d) own others (safe_part d t b p.kind p.bytes own h leaves) later))
+safe_left : (d : Passing) (r : Rendition) (b : Begun) (parts : List Part) (run : List ℕ) (items : List Item) → IsWithin b.address → SafeRendition d r → AreLeft d r b run parts items
+    → AllByRecursion (IsSafe d) items
+safe_left d r b [] run items h safe e = rw e (safe_run d run)
+safe_left d r b (p ∷ parts) run items h safe (own, others, after, leaves, e, rest) =
+    let (here, behind) = safe_part d r b p.kind p.bytes own after h safe leaves in
+    let later = safe_left d after (begun_behind d b p.kind p.bytes) parts (run_behind p.kind run p.bytes) others (fine_part d b p.kind p.bytes h) behind rest in
+    rw e (all_both (IsSafe d) (items_behind p.kind run) (own ++ others) (safe_behind d p.kind run) (all_both (IsSafe d) own others here later))
 
 none_within : IsWithin no_address
 none_within = record { params = tt; few = omega arith; url = tt; short = omega arith }
@@ -304,7 +351,7 @@ safe_ends d linked styled f =
 
 pub safe_closed : (d : Passing) (bytes text : List ℕ) (s : StylesIn d bytes text) → AllByRecursion (IsSafe d) (closed s.items)
 safe_closed d bytes text s =
-    let safe = safe_left d false start (with_titles false s.parts) [] s.items none_within s.left in
+    let safe = safe_left d plain_rendition start (as_read first_reading s.parts) [] s.items none_within (tt, tt) s.left in
     let linked = is_linked false (links_of s.items) in
     let styled = is_open false (styles_of s.items) in
     all_both (IsSafe d) s.items (ends_of linked styled) safe (safe_ends d linked styled (λ e. linked_passes d s.items false (λ no. absurd cc) safe e))
@@ -320,21 +367,6 @@ styled d bytes text s =
       none_open = styles_shut s.items linked styled refl;
       none_linked = links_shut s.items linked styled refl;
     }
-
--- ---- an action more
-
-pub more_text : (d : Depth) (x : Action) (xs : List Action) (out new : List ℕ) → new ≡ out ++ texts (map action.Sgr (kept d (x ∷ [])))
-    → new ++ texts (map action.Sgr (kept d xs)) ≡ out ++ texts (map action.Sgr (kept d (x ∷ xs)))
-more_text d x xs out new e = rw (e, kept_on d (x ∷ []) xs) (simp (map-append, flat_map-append, append_assoc))
-
-pub more_open : (d : Depth) (x : Action) (xs : List Action) (b now : Bool) → is_open b (kept d (x ∷ [])) ≡ now
-    → is_open now (kept d xs) ≡ is_open b (kept d (x ∷ xs))
-more_open d x xs b now e = rw (kept_on d (x ∷ []) xs, open_on b (kept d (x ∷ [])) (kept d xs), e) refl
-
--- a colour that becomes another is no reset
-pub reset_reduced : (d : Depth) (s : Sgr) → is_reset (reduced d s) ≡ is_reset s
-reset_reduced d (Sgr.Foreground c) = refl
-reset_reduced d _ = refl
 
 -- ---- What `clean` leaves is safe by its bytes alone.
 

@@ -3,12 +3,13 @@ pub use Rattle.std.proofs.lemmas.Str.{encode_ascii as alone}
 pub use Rattle.csicodec_looks.proofs.Fronts.{front_in, behind_one, behind_drop, front_within, front_ends, low, is_shown, scalars, encoded}
 use Rattle.std.proofs.Common.{◌≡◌, ℕ, zero, suc, ◌<◌, ◌≤◌, Bool, true, List, [], ◌∷◌, drop, take, refl, arith, ◌+◌, false, cond, ◌++◌, encode_utf8_all, sym, ap, subst, ◌∙◌, append_assoc, append-nil, filter, ◌-◌, None, Some, length, slice_index, take-append-drop, ◌≢◌, ◌^◌, ◌==◌, min, length-append}
 use Rattle.std.proofs.{lemmas.Bool.false≢true, lemmas.List.append_cancel_left, lemmas.List.Sums.sum_by-append}
-use Rattle.csicodec_clean.proofs.Common.{AllByRecursion, lossy_chars-encode, Answer, Part, Allows, AreFirstParts, IsWhole, none_unsure, singles, whole_once, shown, shown_chars, shown_text, IsShown, IsPlain, with_titles, Strips, stripped, IsOther, and_from, nat_tests, common_steps, take-append_seam, all_scalars, scalar, decoded, lossy_chars, piece-bounds, value-6, value-9, value-12, SpellsChar-decoded, Writing, chars_as, written, IsBehind, IsTextOf, plain_byte, ReadsTo, Tells, and_parts, IsOutside, Stands}
-use Rattle.csicodec_clean.proofs.Plain.{strips_plain, plain_bytes, text_on, all_both, all_weaker, shown_on, written_none, read_more, read_none, read_on, all_parts, scalars_lossy, encoded_on}
-use Rattle.csicodec_clean.proofs.Titles.{single_texts}
+use Rattle.csicodec_clean.proofs.Common.{AllByRecursion, lossy_chars-encode, Answer, Part, Allows, AreFirstParts, IsWhole, none_unsure, singles, whole_once, shown, shown_chars, shown_text, IsShown, IsPlain, as_read, first_reading, Strips, stripped, IsOther, and_from, nat_tests, common_steps, take-append_seam, all_scalars, scalar, decoded, lossy_chars, piece-bounds, value-6, value-9, value-12, SpellsChar-decoded, Writing, chars_as, written, IsBehind, IsTextOf, plain_byte, ReadsTo, Tells, and_parts, IsOutside, Stands}
+use Rattle.csicodec_clean.proofs.Plain.{strips_plain, plain_bytes, plain_still, text_on, all_both, all_weaker, shown_on, written_none, read_more, read_none, read_on, all_parts, scalars_lossy, encoded_on}
+use Rattle.csicodec_clean.proofs.Drawn.{read_text}
 use Rattle.std.specs.{List.prefix_len, Char.encode_utf8}
 use Rattle.csicodec_looks.specs.Bytes.{behind, IsPlainByte}
-use Rattle.csicodec_clean.specs.{Shown.IsWritten, Private.Steps.IsTold, Private.Steps.dropped_byte, Private.Steps.IsWide, Check.IsFault, Check.line_ends}
+use Rattle.csicodec_clean.specs.{Shown.IsWritten, Private.Steps.IsTold, Private.Steps.IsStill, Private.Steps.dropped_byte, Private.Steps.IsWide, Check.IsFault}
+use Rattle.csicodec_clean.specs.{Check.line_ends}
 use Rattle.csicodec_spans.proofs.Agrees.{text_goes_on}
 use lib.Utf8.{low_scalar}
 use Rattle.bstr.specs.Utf8.{Decoded, continues, second, code_of_2, code_of_3, code_of_4}
@@ -34,13 +35,13 @@ all_kept [] h = refl
 all_kept (c ∷ cs) h = ap (λ b. cond b (c ∷ filter shown cs) (filter shown cs)) h.0 ∙ ap (λ t. c ∷ t) (all_kept cs h.1)
 
 pub one_text : (limit : ℕ) (bytes text other : List ℕ) → Strips limit bytes text → Strips limit bytes other → text ≡ other
-one_text limit bytes text other s t = s.left ∙ ap (λ ps. stripped [] (with_titles false ps)) (whole_once limit Mode.Text bytes s.parts t.parts s.whole t.whole) ∙ sym t.left
+one_text limit bytes text other s t = s.left ∙ ap (λ ps. stripped [] (as_read first_reading ps)) (whole_once limit Mode.Text bytes s.parts t.parts s.whole t.whole) ∙ sym t.left
 
 pub plain_stays : (limit : ℕ) (text other : List ℕ) → IsPlain text → Strips limit text other → other ≡ text
 plain_stays limit text other p s =
     let (cs, scalars, all, e) = p in
     let parts = whole_once limit Mode.Text text s.parts (singles Kind.Text text) s.whole (whole_all limit text (singles Kind.Text text) (all_text limit text (plain_bytes text p))) in
-    s.left ∙ ap (λ ps. stripped [] (with_titles false ps)) parts ∙ ap (stripped []) (single_texts text) ∙ stripped_text text [] ∙ ap shown_text e
+    s.left ∙ ap (λ ps. stripped [] (as_read first_reading ps)) parts ∙ ap (stripped []) (read_text text (plain_still text p)) ∙ stripped_text text [] ∙ ap shown_text e
     ∙ ap shown_chars (lossy_chars-encode cs scalars) ∙ ap encode_utf8_all (all_kept cs all) ∙ sym e
 
 pub twice : (limit : ℕ) (bytes text other : List ℕ) → Strips limit bytes text → Strips limit text other → other ≡ text
@@ -80,7 +81,7 @@ behind_front class bytes n h = (take n bytes, sym (take-append-drop n bytes), h)
 
 -- characters that are shown are told
 pub plain_told : (text : List ℕ) (p : IsPlain text) → IsTold text p.0
-plain_told text (cs, scalars, all, e) = (plain_bytes text (cs, scalars, all, e), λ more. ap (λ t. lossy_chars (t ++ more)) e ∙ lossy_chars-front cs more scalars)
+plain_told text (cs, scalars, all, e) = (plain_still text (cs, scalars, all, e), λ more. ap (λ t. lossy_chars (t ++ more)) e ∙ lossy_chars-front cs more scalars)
 
 one_read : (b : ℕ) (bs : List ℕ) → b < 128 → lossy_chars (b ∷ bs) ≡ b ∷ lossy_chars bs
 one_read b bs a = rw (alone b a) at (lossy_chars-front (b ∷ []) bs (and_from (scalar b) true (low_scalar b (omega (arith, a))) refl))
@@ -92,7 +93,7 @@ tells_none w bytes old = ([], [], refl, (tt, read_none []), sym (ap (λ t. old +
 
 pub tells_on : (w : Writing) (bytes mid rest old one new : List ℕ) → Tells w bytes mid old one → Tells w mid rest one new → Tells w bytes rest old new
 tells_on w bytes mid rest old one new (xs, cs, e, (h, r), o) (ys, ds, f, (k, t), n) =
-    let told : IsTold (xs ++ ys) (cs ++ ds) = (all_both IsOther xs ys h k, read_more xs [] ys [] cs ds r t) in
+    let told : IsTold (xs ++ ys) (cs ++ ds) = (all_both IsStill xs ys h k, read_more xs [] ys [] cs ds r t) in
     (xs ++ ys, cs ++ ds, rw (e, f) (simp append_assoc), told, rw (n, o, shown_on w cs ds) (simp append_assoc))
 
 -- the plain bytes in front are what is before the others
@@ -106,7 +107,7 @@ tells_shown w bytes rest old new (text, e, (cs, scalars, all, is)) h =
 
 pub tells_dropped : (w : Writing) (b : ℕ) (bytes rest old : List ℕ) → bytes ≡ b ∷ rest → dropped_byte b ≡ true → Tells w bytes rest old old
 tells_dropped w b bytes rest old e d =
-    let other : IsOther b = λ is. absurd (grind (arith, nat_tests)) in
+    let other : IsStill b = (λ is. absurd (grind (arith, nat_tests)), λ is. absurd (grind (arith, nat_tests)), λ is. absurd (grind (arith, nat_tests))) in
     let hidden : shown b ≡ false = grind (arith, nat_tests) in
     (b ∷ [], b ∷ [], e, ((other, tt), λ more. one_read b more (grind (arith, nat_tests))), rw (hidden, written_none w, append-nil) refl)
 

@@ -2,7 +2,7 @@
 -- gives for its control sequences.
 use Rattle.std.specs.Prelude.{ℕ, ◌≡◌, None, Bool, true, false, if◌then◌else◌, List, [], ◌∷◌, ◌++◌}
 use Rattle.csicodec_spans.specs.{declared.table.Kind.Kind, Parts.Part, Parts.IsWhole, declared.table.Mode.Mode}
-use Rattle.csicodec_clean.specs.{Shown.Writing, Shown.run_as, Shown.shown_text, Titles.with_titles}
+use Rattle.csicodec_clean.specs.{Shown.Writing, Shown.run_as, Shown.shown_text, Sets.as_read, Sets.first_reading}
 
 abbrev pub is_text : Kind → Bool
 is_text Kind.Text = true
@@ -18,7 +18,7 @@ stripped run (p ∷ parts) = if is_text p.kind then stripped (run ++ p.bytes) pa
 pub record Strips (limit : ℕ) (bytes text : List ℕ) : Type 0 where
   pub parts : List Part
   pub whole : IsWhole limit Mode.Text bytes parts
-  pub left : text ≡ stripped [] (with_titles false parts)
+  pub left : text ≡ stripped [] (as_read first_reading parts)
 
 -- a control sequence of more bytes is none
 abbrev pub longest : ℕ
@@ -75,7 +75,7 @@ pub record Ends {S : Type 0} (Gives : RuleOf S) (Closes : EndOf S) (limit : ℕ)
   pub before : List ℕ
   pub run : List ℕ
   pub after : S
-  pub steps : AreSteps Gives s [] (with_titles false parts) before after run
+  pub steps : AreSteps Gives s [] (as_read first_reading parts) before after run
   pub close : List ℕ
   pub closes : Closes after close
   pub all : text ≡ before ++ (run_as Gives.writing run ++ close)

@@ -5,7 +5,7 @@ use Rattle.bstr.specs.Utf8.{lossy_chars}
 use Rattle.csicodec_actions.specs.Actions.{Action}
 use Rattle.csicodec_terminal.specs.Terminal.{IsTakenFor}
 use Rattle.csicodec_spans.specs.{declared.table.Kind.Kind, Parts.Part, Parts.IsWhole, declared.table.Mode.Mode}
-use Rattle.csicodec_clean.specs.{Shown.shown, Shown.IsShown, Titles.with_titles, Addresses.is_web, Links.Address, Links.Begun, Links.all_behind}
+use Rattle.csicodec_clean.specs.{Shown.shown, Shown.IsShown, Sets.as_read, Sets.first_reading, Addresses.is_web, Links.Address, Links.Begun, Links.all_behind}
 use Rattle.csicodec_clean.specs.{Links.is_visible, Links.links_in, Links.longest_url, Links.start, Cleaned.longest, declared.saving.Looks.Looks}
 use Rattle.csicodec_clean.specs.{Saving.behind_all, Saving.behind_effect, Saving.escape_effect, Saving.plain_looks, Saving.sets, Saving.sets_any}
 use Rattle.csicodec_looks.specs.Pieces.{Piece, Char, Begin, End, Open, Shut, piece_texts, ends, turn, shuts, switch, simple}
@@ -101,7 +101,7 @@ pub record PageWith (m : Markup) (bytes page : List ℕ) : Type 0 where
   pub parts : List Part
   pub whole : IsWhole longest Mode.Text bytes parts
   pub pieces : List Piece
-  pub left : AreLeft (first_set m) [] (with_titles false parts) pieces
+  pub left : AreLeft (first_set m) [] (as_read first_reading parts) pieces
   pub all : page ≡ piece_texts pieces
 
 abbrev pub PageOf : List ℕ → List ℕ → Type 0

@@ -62,11 +62,6 @@ sets (Some (Effect.Sets s)) = true
 sets (Some Effect.Clears) = true
 sets e = false
 
--- whether all is set back by it
-abbrev pub clears : Option Effect → Bool
-clears (Some Effect.Clears) = true
-clears e = false
-
 abbrev pub sets_any : List Action → Bool
 sets_any [] = false
 sets_any (a ∷ actions) = sets (effect_of a) || sets_any actions

@@ -1,15 +1,15 @@
 -- A stream that is cleaned as it comes, step by step: the caller keeps what is open, and the bytes that no step used.
 use Rattle.std.specs.Prelude.{ℕ, ◌≡◌, ◌≤◌, ◌<◌, ◌+◌, Bool, false, if◌then◌else◌, List, [], ◌∷◌, ◌++◌, length, take, drop}
 use Rattle.csicodec_actions.specs.Table.{text}
-use Rattle.csicodec_clean.specs.{declared.step.Pause.Pause, declared.whole.Dropped.Dropped, Shown.shown_text, Cleaned.RuleOf, Cleaned.longest, Stream.Between}
-use Rattle.csicodec_clean.specs.{Stream.Takes}
+use Rattle.csicodec_clean.specs.{declared.step.Pause.Pause, declared.whole.Dropped.Dropped, Shown.shown_text, Cleaned.RuleOf, Cleaned.longest}
+use Rattle.csicodec_clean.specs.{Sets.first_reading, Stream.Between, Stream.Takes}
 use Rattle.csicodec_base.specs.declared.sgr.Sgr.{Sgr}
 use Rattle.csicodec_spans.specs.declared.table.Mode.{Mode}
 use Rattle.csicodec_actions.specs.Actions as action
 
 -- where nothing has come
 abbrev pub beginning : Pause
-beginning = record { mode = Mode.Text; titled = false; styled = false; held = 0 }
+beginning = record { mode = Mode.Text; reading = first_reading; styled = false; held = 0 }
 
 -- the rule that drops has no state
 abbrev pub bare : Dropped
@@ -17,7 +17,7 @@ bare = record {}
 
 -- what a stream is between two steps, by the rule's state, the pause, and the bytes that come again: the first of these are held
 abbrev pub between : {S : Type 0} → S → Pause → List ℕ → Between S
-between s p again = record { rule = s; mode = p.mode; titled = p.titled; bytes = drop p.held again; held = take p.held again }
+between s p again = record { rule = s; mode = p.mode; reading = p.reading; bytes = drop p.held again; held = take p.held again }
 
 -- however many of the bytes came again, the step takes those behind them, and leaves the rest
 abbrev pub Resumes : {S : Type 0} → RuleOf S → S → Pause → List ℕ → List ℕ → S → Pause → List ℕ

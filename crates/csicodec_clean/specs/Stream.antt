@@ -1,20 +1,20 @@
 -- A stream that is cleaned as it comes, chunk by chunk.
-use Rattle.std.specs.{Prelude.ℕ, Prelude.◌≡◌, Prelude.Bool, Prelude.false, Prelude.List, Prelude.[], Prelude.◌∷◌, Prelude.◌++◌, List.concat}
+use Rattle.std.specs.{Prelude.ℕ, Prelude.◌≡◌, Prelude.List, Prelude.[], Prelude.◌∷◌, Prelude.◌++◌, List.concat}
 use Rattle.csicodec_spans.specs.{declared.table.Mode.Mode, Parts.Part, Parts.AreFirstParts, Parts.IsUnsure}
 use Rattle.csicodec_transform.specs.Transform.{Begins as BeginsWith, EndsOf, PassesOf, Sends}
-use Rattle.csicodec_clean.specs.{Shown.IsRead, Shown.chars_as, Shown.run_as, Titles.title_open, Titles.with_titles, Cleaned.RuleOf, Cleaned.EndOf}
-use Rattle.csicodec_clean.specs.{Cleaned.AreSteps, Cleaned.Ends, Cleaned.longest}
+use Rattle.csicodec_clean.specs.{Shown.IsRead, Shown.chars_as, Shown.run_as, Sets.as_read, Sets.first_reading, Sets.read_behind}
+use Rattle.csicodec_clean.specs.{declared.reading.Reading.Reading, Cleaned.RuleOf, Cleaned.EndOf, Cleaned.AreSteps, Cleaned.Ends, Cleaned.longest}
 
--- between two pushes: the rule, what is open and whether that is a title, the bytes of which nothing is sure yet, and those of a character before them
+-- between two pushes: the rule, what is open, how text is read, the bytes of which nothing is sure yet, and those of a character before them
 pub record Between (S : Type 0) : Type 0 where
   pub rule : S
   pub mode : Mode
-  pub titled : Bool
+  pub reading : Reading
   pub bytes : List ℕ
   pub held : List ℕ
 
 abbrev pub start_of : {S : Type 0} → S → Between S
-start_of s = record { rule = s; mode = Mode.Text; titled = false; bytes = []; held = [] }
+start_of s = record { rule = s; mode = Mode.Text; reading = first_reading; bytes = []; held = [] }
 
 -- more bytes have come
 abbrev pub with_more : {S : Type 0} → Between S → List ℕ → Between S
@@ -29,8 +29,8 @@ pub record Goes {S : Type 0} (Gives : RuleOf S) (limit : ℕ) (run chars : List 
   pub left : List ℕ
   pub read : List ℕ
   pub first : AreFirstParts limit old.mode old.bytes parts new.bytes new.mode
-  pub titles : new.titled ≡ title_open old.titled parts
-  pub steps : AreSteps Gives old.rule run (with_titles old.titled parts) text new.rule left
+  pub reads : new.reading ≡ read_behind old.reading parts
+  pub steps : AreSteps Gives old.rule run (as_read old.reading parts) text new.rule left
   pub is_read : IsRead left read new.held
   pub same : chars_as Gives.writing chars ++ appended ≡ text ++ chars_as Gives.writing read
 

@@ -2,6 +2,7 @@
 ghost use Rattle.std.specs.Prelude.{◌≡◌, ◌<◌, ◌≤◌, ◌++◌, ℕ, List, [], length, OnOk};
 ghost use Rattle.csicodec_clean.specs.{Shown.run_as, Cleaned.longest, Stream.Takes, Stream.start_of};
 
+use crate::reading::Reading;
 use crate::rule::{Anew, Rule};
 use crate::spans::append_clean;
 use crate::text::append_shown;
@@ -18,7 +19,7 @@ use std::marker::Model;
 #[derive(Drop)]
 pub struct Cleaner<R> {
     rule: R,
-    titled: bool,
+    reading: Reading,
     waiting: Waiting,
     held: Vec<u8>,
     params: Vec<CsiParam>,
@@ -31,7 +32,7 @@ impl<R> Model for Cleaner<R> {
 
     ghost Value = { Between R };
 
-    ghost view = { λ c. record { rule = c.rule; mode = c.waiting.mode; titled = c.titled; bytes = c.waiting.bytes; held = c.held.items } };
+    ghost view = { λ c. record { rule = c.rule; mode = c.waiting.mode; reading = c.reading; bytes = c.waiting.bytes; held = c.held.items } };
 
     ghost invariant = { λ c. c.waiting.limit ≡ longest };
 }
@@ -43,7 +44,7 @@ impl<R: Rule + Drop> Cleaner<R> {
     {
         Cleaner {
             rule,
-            titled: false,
+            reading: Reading::first(),
             waiting: Waiting::new(alloc, LIMIT),
             held: Vec::new(alloc),
             params: Vec::new(alloc),
@@ -66,7 +67,7 @@ impl<R: Rule + Drop> Cleaner<R> {
             &mut self.rule,
             &mut self.params,
             &mut self.held,
-            &mut self.titled,
+            &mut self.reading,
             LIMIT,
             self.waiting.mode(),
             &all,
@@ -95,7 +96,7 @@ impl<P, R: Rule + Anew<P> + Drop> Anew<P> for Cleaner<R> {
 
     fn begin(&mut self, by: P) {
         self.rule.begin(by);
-        self.titled = false;
+        self.reading = Reading::first();
         self.waiting.clear();
         self.held.clear();
     }

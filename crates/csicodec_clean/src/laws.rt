@@ -2,7 +2,7 @@
 ghost use Rattle.std.specs.{Prelude.◌≡◌, Prelude.◌≢◌, Prelude.◌∷◌, Prelude.◌++◌, Prelude.[], Prelude.ℕ, Prelude.List, Prelude.codes, Prelude.false, Prelude.length};
 ghost use Rattle.std.specs.{Prelude.slice_get, Prelude.true, List.AllByRecursion, List.Contains, List.concat};
 ghost use Rattle.csicodec_clean.specs.Links.{Address, IsAdmitted, IsLink, IsWithin, Stood, StoodIn, admitted, begun, link_body, links_in, start};
-ghost use Rattle.csicodec_clean.specs.Styled.{IsStyledIn, Keeping, StylesIn, first_kept, links_of, resets, resumed, keeps, without_links};
+ghost use Rattle.csicodec_clean.specs.Styled.{IsStyledIn, Keeping, StylesIn, first_kept, links_of, in_steps, resets, resumed, keeps};
 ghost use Rattle.csicodec_clean.specs.{Addresses.ends_host, Addresses.is_web, Addresses.led, declared.links.LinkState.TheVariants.Outside, Cleaned.Ends};
 ghost use Rattle.csicodec_clean.specs.{Cleaned.Strips, Cleaned.drops, Cleaned.ends_bare, Cleaned.longest, declared.step.Pause.Pause, declared.styles.Passing.Passing};
 ghost use Rattle.csicodec_clean.specs.{declared.whole.Dropped.Dropped, Check.IsFault, Marked.IsMarked, Shown.IsPlain, Shown.shown, Titles.InTitle, Titles.IsText};
@@ -21,7 +21,7 @@ pub fn any_chunks<R: Rule>()
 {}
 
 /// Nor how it is cut into the steps of a caller that keeps what is open: what these append, and the end, is what `strip` makes of all of
-/// it, or `clean_in`.
+/// it, or `clean_with` where no links pass and no styles are brought back.
 #[tactic(auto, using(crate::proofs::Streams::stripped_steps, crate::proofs::Streams::cleaned_steps))]
 pub fn any_steps()
     ensures strip { (chunks : List (List ℕ)) (text rest : List ℕ) (last : Pause)
@@ -29,7 +29,7 @@ pub fn any_steps()
         → Strips longest (concat chunks) (text ++ ending last rest) }
     ensures clean { (d : Depth) (chunks : List (List ℕ)) (text rest : List ℕ) (last : Pause)
         → AreStepped keeps (resumed d) beginning [] chunks text last rest
-        → StylesIn (without_links d) (concat chunks) (text ++ ending last rest) }
+        → StylesIn (in_steps d) (concat chunks) (text ++ ending last rest) }
 {}
 
 /// Bytes are stripped to one text.

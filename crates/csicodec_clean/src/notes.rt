@@ -1,19 +1,22 @@
-//! What is noted of control sequences that came before: what stays of each, and whether a style is open behind it.
-ghost use Rattle.std.specs.Prelude.{◌≡◌, ◌<◌, ◌≤◌, ◌++◌, ◌∷◌, ℕ, Bool, List, map, true, false, if◌then◌else◌, length, slice_index, take, IfOk, IfNone, IfSome, OnOk};
-ghost use Rattle.std.specs.Option.{unwrap_or};
-ghost use Rattle.csicodec_actions.specs.{Actions.Action, Actions.Sgr as SgrAction, Table.texts};
+//! What is noted of control sequences that came before: the styles that stay of each.
+ghost use Rattle.std.specs.Prelude.{◌≡◌, ◌+◌, ◌<◌, ◌≤◌, ◌++◌, ◌∷◌, [], ℕ, List, map, true, false, length, take, IfOk, OnOk};
 ghost use Rattle.csicodec_parser.specs.ActionOf.{action_of};
 ghost use Rattle.csicodec_transform.specs.Known.{AreKnown};
 ghost use Rattle.csicodec_looks.specs.declared.xterm.Depth.TheVariants.{Full as AllColors};
-ghost use Rattle.csicodec_clean.specs.{Styled.is_decstr, Styled.is_open, Styled.kept, Private.Notes.IsLeft, Private.Notes.IsNoted, Private.Notes.depth_byte};
-ghost use Rattle.csicodec_clean.specs.{Private.Notes.open_byte};
+ghost use Rattle.csicodec_clean.specs.Private.Notes.{HasPlaces, IsLeft, IsNoted, IsSplit, code_of, depth_byte, kept, note_of, places, stays};
+ghost use Rattle.csicodec_clean.specs.{Saving.are_lasting, Saving.effect_of, Styled.attribute, Styled.style_texts};
+ghost use Rattle.csicodec_base.specs.declared.sgr.Sgr.{Sgr as Style};
 ghost use Rattle.csicodec_terminal.specs.Terminal.{IsTakenFor};
 
-use crate::styles::append_styles;
+use crate::rendition::{
+    HEAD, MIXED, NOTHING, RESET, Rendition, attribute, hides, is_reset, style_text, text_of,
+};
+use crate::saving::{Effect, action_effect, is_lasting};
+use crate::styles::Passing;
 use crate::text::append_front;
-use csicodec_base::{CsiParam, ReadError, read_csi_into};
+use csicodec_base::{CsiParam, ReadError, Sgr, read_csi_into};
 use csicodec_looks::LANES;
-use csicodec_looks::xterm::Depth;
+use csicodec_looks::xterm::{Depth, reduced};
 use csicodec_parser::CSI;
 use csicodec_streams::{color_text, position_len, read_color};
 use csicodec_terminal::terminal_actions_into;
@@ -41,62 +44,167 @@ fn depth_byte(depth: Depth) -> u8
     }
 }
 
-/// Whether a style is open, as a byte.
-fn open_byte(styled: bool) -> u8
-    ensures { result ≡ open_byte styled }
-{
-    if styled { 1 } else { 0 }
-}
-
-/// Whether a style is open behind the sequence of a note, as a byte.
-#[inline(always)]
-fn open_in(note: &[u8], styled: bool) -> u8
-    requires { 3 ≤ length note.now }
-    ensures { result ≡ (if styled then slice_index note.now 2 else slice_index note.now 1) }
-{
-    if styled { note[2] } else { note[1] }
-}
-
-/// Appends the text that is noted of the sequence that was found last, if it was noted with these colours,
-/// and answers whether a style is open behind it.
+/// Appends the text that is noted of the sequence that was found last, whose styles come, if it was noted with these colours.
 #[inline(always)]
 pub(crate) fn append_noted(
     known: &Known<StyleNote>,
-    depth: Depth,
-    styled: bool,
+    passing: Passing,
+    rendition: &mut Rendition,
     out: &mut Vec<u8>,
-) -> Result<Option<bool>, AllocError>
-    ensures left { IfOk result
-        (λ o. IfSome o (λ after. (bytes : List ℕ) → IsNoted bytes known.now.note
-        → IsLeft depth styled bytes after out.old.items out.new.items)) }
-    ensures none { IfOk result (λ o. IfNone o (out.new.items ≡ out.old.items)) }
+) -> Result<bool, AllocError>
+    requires { (bytes : List ℕ) × IsNoted bytes known.now.note }
+    ensures left { IfOk result (λ is. is ≡ true → (bytes : List ℕ) → IsNoted bytes known.now.note
+        → IsLeft passing bytes rendition.old rendition.new out.old.items out.new.items) }
+    ensures none { IfOk result (λ is. is ≡ false → (rendition.new ≡ rendition.old) × (out.new.items ≡ out.old.items)) }
 {
     let note = known.noted();
-    if note.len() < 3 || note[0] != depth_byte(depth) {
-        return Ok(None);
+    if note[0] != depth_byte(passing.depth) {
+        return Ok(false);
     }
-    let after = open_in(note, styled);
-    append_front::<LANES>(known.wide().split_at(3).1, note.len() - 3, out)?;
-    Ok(Some(after == 1))
+    let (start, len) = text_of(note);
+    rendition.take_note(passing, note, known.wide());
+    append_front::<LANES>(known.wide().split_at(start).1, len, out)?;
+    Ok(true)
 }
 
 /// What begins with the note of a colour, where all stay, by what begins with its normal form.
 #[inline(always)]
-fn color_note(text: &[u8; 24]) -> [u8; 27]
-    ensures { result ≡ depth_byte AllColors ∷ open_byte true ∷ open_byte true ∷ text.now }
+fn color_note(style: &Sgr, text: &[u8; 24]) -> [u8; 26]
+    ensures { result ≡ depth_byte AllColors ∷ attribute style.now ∷ text.now }
 {
-    let mut note = [0; 27];
-    note[..3].copy_from_slice(&[depth_byte(Depth::Full), open_byte(true), open_byte(true)]);
-    note[3..].copy_from_slice(text);
+    let mut note = [0; 26];
+    note[..HEAD].copy_from_slice(&[depth_byte(Depth::Full), attribute(style)]);
+    note[HEAD..].copy_from_slice(text);
     note
 }
 
-/// Whether the sequence in front has `!` behind `ESC [`, as DECSTR has.
-#[inline(always)]
-fn begins_soft_reset(bytes: &[u8]) -> bool
-    ensures { result ≡ false → (len : ℕ) → is_decstr (take len bytes.now) ≡ false }
+/// Where the styles stand in a text: how long it is up to the last reset, and of each style behind that the place of its attribute, and
+/// how long its text is.
+#[derive(Drop)]
+struct Places {
+    front: usize,
+    since: Vec<u8>,
+}
+
+impl Places {
+    /// Appends the text of one more style to a text that starts there.
+    fn append(&mut self, style: &Sgr, start: usize, out: &mut Vec<u8>) -> Result<(), AllocError>
+        requires { start ≤ length out.old.items }
+        ensures text { OnOk result (out.new.items ≡ out.old.items ++ style_texts (style.now ∷ [])) }
+        ensures places { OnOk result ((styles : List Style) → length out.old.items ≡ start + length (style_texts styles)
+            → HasPlaces styles self.old.front self.old.since.items
+            → HasPlaces (styles ++ style.now ∷ []) self.new.front self.new.since.items) }
+    {
+        let text = style_text(style);
+        let text = text.as_bytes();
+        out.extend_from_slice(text)?;
+        if is_reset(style) {
+            self.since.clear();
+            self.front = out.len() - start;
+            return Ok(());
+        }
+        self.since
+            .extend_from_slice(&[attribute(style), text.len() as u8])?;
+        Ok(())
+    }
+
+    /// Appends the style of an action, if it is one that stays.
+    fn append_kept(
+        &mut self,
+        depth: Depth,
+        action: &CSI,
+        start: usize,
+        out: &mut Vec<u8>,
+    ) -> Result<(), AllocError>
+        requires { start ≤ length out.old.items }
+        ensures text { OnOk result (out.new.items ≡ out.old.items ++ style_texts (stays depth (effect_of (action_of action.now)))) }
+        ensures places { OnOk result ((styles : List Style) → length out.old.items ≡ start + length (style_texts styles)
+            → HasPlaces styles self.old.front self.old.since.items
+            → HasPlaces (styles ++ stays depth (effect_of (action_of action.now))) self.new.front self.new.since.items) }
+    {
+        let style = match action_effect(action) {
+            Some(Effect::Sets(style)) => style,
+            None | Some(Effect::Clears | Effect::Saves | Effect::Restores) => return Ok(()),
+        };
+        if hides(&style) {
+            return Ok(());
+        }
+        self.append(&reduced(depth, style), start, out)?;
+        Ok(())
+    }
+
+    /// Appends the styles of the actions that stay.
+    fn append_all(
+        &mut self,
+        depth: Depth,
+        actions: &[CSI],
+        out: &mut Vec<u8>,
+    ) -> Result<(), AllocError>
+        ensures text { OnOk result (out.new.items ≡ out.old.items ++ style_texts (kept depth (map action_of actions.now))) }
+        ensures places { OnOk result (HasPlaces (kept depth (map action_of actions.now)) self.new.front self.new.since.items) }
+    {
+        self.front = 0;
+        self.since.clear();
+        let start = out.len();
+        let mut rest = actions;
+        while let Some((action, others)) = rest.split_first() {
+            self.append_kept(depth, action, start, out)?;
+            rest = others;
+        }
+        Ok(())
+    }
+
+    /// What a note says of them.
+    fn code(&self) -> u8
+        ensures { (styles front since : List Style) → IsSplit styles front since → self.now.front ≡ length (style_texts front)
+            → self.now.since.items ≡ places since → result ≡ code_of front since }
+    {
+        if self.since.is_empty() {
+            return if self.front == 0 { NOTHING } else { RESET };
+        }
+        if self.front == 0 && self.since.len() == 2 {
+            return self.since[0];
+        }
+        MIXED
+    }
+
+    /// Writes the note of a text.
+    fn write_note(&self, depth: Depth, text: &[u8], note: &mut Vec<u8>) -> Result<(), AllocError>
+        requires front { self.now.front ≤ 255 }
+        requires since { length self.now.since.items ≤ 510 }
+        ensures { OnOk result ((styles front since : List Style) → IsSplit styles front since → self.now.front ≡ length (style_texts front)
+            → self.now.since.items ≡ places since → text.now ≡ style_texts styles → note.new.items ≡ note_of depth front since) }
+    {
+        note.clear();
+        let code = self.code();
+        note.extend_from_slice(&[depth_byte(depth), code])?;
+        if code != MIXED {
+            note.extend_from_slice(text)?;
+            return Ok(());
+        }
+        let since = self.since.as_slice();
+        note.extend_from_slice(&[self.front as u8, (since.len() / 2) as u8])?;
+        note.extend_from_slice(text)?;
+        note.extend_from_slice(since)?;
+        Ok(())
+    }
+}
+
+/// Whether a sequence of these actions may have a note: it has few, and saves nothing, and brings nothing back.
+fn is_noted(actions: &[CSI]) -> bool
+    ensures { result ≡ true → (length actions.now ≤ 7) × (are_lasting (map action_of actions.now) ≡ true) }
 {
-    bytes.len() > 2 && bytes[2] == b'!'
+    if actions.len() > 7 {
+        return false;
+    }
+    let mut rest = actions;
+    while let Some((action, others)) = rest.split_first() {
+        if !is_lasting(action_effect(action)) {
+            return false;
+        }
+        rest = others;
+    }
+    true
 }
 
 /// What is noted of sequences that came before, and places that are kept for one that is read: its tokens, its actions, and its note.
@@ -106,6 +214,7 @@ pub(crate) struct SequenceNotes {
     pub(crate) known: Known<StyleNote>,
     params: Vec<CsiParam>,
     pub(crate) actions: Vec<CSI>,
+    places: Places,
     note: Vec<u8>,
 }
 
@@ -119,31 +228,35 @@ impl SequenceNotes {
             known: Known::new(alloc),
             params: Vec::new(alloc),
             actions: Vec::new(alloc),
+            places: Places {
+                front: 0,
+                since: Vec::new(alloc),
+            },
             note: Vec::new(alloc),
         }
     }
 
-    /// Appends the normal form of the true colour in front, and notes it, where all colours stay; answers how many bytes its sequence has.
-    /// A style is open behind it. It answers 0 where it takes none.
+    /// Takes the true colour in front, where all colours stay: appends its normal form, and notes it; answers how many bytes its sequence has. It answers 0 where it
+    /// takes none.
     #[inline(always)]
     fn take_color(
         &mut self,
-        depth: Depth,
+        passing: Passing,
+        rendition: &mut Rendition,
         bytes: &[u8],
         out: &mut Vec<u8>,
     ) -> Result<usize, AllocError>
         requires known { AreKnown IsNoted self.old.known.memo.slots.items }
-        requires other { (len : ℕ) → is_decstr (take len bytes.now) ≡ false }
         ensures within { IfOk result (λ len. len ≤ length bytes.now) }
-        ensures left { IfOk result (λ len. 0 < len → (styled : Bool)
-            → IsLeft depth styled (take len bytes.now) true out.old.items out.new.items) }
-        ensures none { IfOk result (λ len. len ≡ 0 → out.new.items ≡ out.old.items) }
+        ensures left { IfOk result (λ len. 0 < len
+            → IsLeft passing (take len bytes.now) rendition.old rendition.new out.old.items out.new.items) }
+        ensures none { IfOk result (λ len. len ≡ 0 → (rendition.new ≡ rendition.old) × (out.new.items ≡ out.old.items)) }
         ensures known { AreKnown IsNoted self.new.known.memo.slots.items }
     {
-        let Depth::Full = depth else {
+        let Depth::Full = passing.depth else {
             return Ok(0);
         };
-        let Some((_, rest)) = read_color(bytes) else {
+        let Some((style, rest)) = read_color(bytes) else {
             return Ok(0);
         };
         let Some(text) = color_text(bytes) else {
@@ -151,38 +264,11 @@ impl SequenceNotes {
         };
         let len = bytes.len() - rest.len();
         append_front::<24>(&text, len + 1, out)?;
-        self.known
-            .keep(bytes, len, color_note(&text).split_at(len + 4).0);
+        let wide = color_note(&style, &text);
+        let note = wide.split_at(len + 3).0;
+        rendition.take_note(passing, note, &wide);
+        self.known.keep(bytes, len, note);
         Ok(len)
-    }
-
-    /// Notes what was appended for the sequence in front, whose actions are kept, and whether the last style of it leaves one open.
-    fn keep(
-        &mut self,
-        depth: Depth,
-        last: Option<bool>,
-        bytes: &[u8],
-        len: usize,
-        text: &[u8],
-    ) -> Result<(), AllocError>
-        requires known { AreKnown IsNoted self.old.known.memo.slots.items }
-        requires sequence { IsTakenFor (take len bytes.now) (map action_of self.old.actions.items) }
-        requires other { is_decstr (take len bytes.now) ≡ false }
-        requires text { text.now
-            ≡ texts (map SgrAction (kept depth (map action_of self.old.actions.items))) }
-        requires last { (styled : Bool)
-            → is_open styled (kept depth (map action_of self.old.actions.items)) ≡ unwrap_or last styled }
-        ensures { AreKnown IsNoted self.new.known.memo.slots.items }
-    {
-        self.note.clear();
-        self.note.extend_from_slice(&[
-            depth_byte(depth),
-            open_byte(last.unwrap_or(false)),
-            open_byte(last.unwrap_or(true)),
-        ])?;
-        self.note.extend_from_slice(text)?;
-        self.known.keep(bytes, len, &self.note);
-        Ok(())
     }
 
     /// Keeps the actions of the sequence in front, and answers how many bytes it has; 0 where none stands there.
@@ -210,43 +296,49 @@ impl SequenceNotes {
     }
 
     /// Appends what stays of the sequence in front, which isn't known, and notes it, unless it only moves the cursor; answers how many
-    /// bytes it has, and whether a style is open behind it. It answers 0 where no sequence stands there.
+    /// bytes it has. It answers 0 where no sequence stands there, and where one has no note.
     #[inline(never)]
     pub(crate) fn take_new(
         &mut self,
-        depth: Depth,
-        styled: bool,
+        passing: Passing,
+        rendition: &mut Rendition,
         bytes: &[u8],
         out: &mut Vec<u8>,
-    ) -> Result<(usize, bool), AllocError>
+    ) -> Result<usize, AllocError>
         requires { AreKnown IsNoted self.old.known.memo.slots.items }
-        ensures within { IfOk result (λ (len, after). len ≤ length bytes.now) }
-        ensures left { IfOk result (λ (len, after). 0 < len
-            → IsLeft depth styled (take len bytes.now) after out.old.items out.new.items) }
+        ensures within { IfOk result (λ len. len ≤ length bytes.now) }
+        ensures left { IfOk result (λ len. 0 < len
+            → IsLeft passing (take len bytes.now) rendition.old rendition.new out.old.items out.new.items) }
         ensures none { IfOk result
-            (λ (len, after). len ≡ 0 → (after ≡ styled) × (out.new.items ≡ out.old.items)) }
+            (λ len. len ≡ 0 → (rendition.new ≡ rendition.old) × (out.new.items ≡ out.old.items)) }
         ensures known { AreKnown IsNoted self.new.known.memo.slots.items }
     {
-        // Of DECSTR it depends on what is open.
-        if begins_soft_reset(bytes) {
-            return Ok((0, styled));
-        }
+        // What saves the cursor, and brings it back, has three bytes.
         let moved = position_len(b'1', bytes);
-        if moved > 0 {
-            return Ok((moved, styled));
+        if moved > 3 {
+            return Ok(moved);
         }
-        let colored = self.take_color(depth, bytes, out)?;
+        let colored = self.take_color(passing, rendition, bytes, out)?;
         if colored > 0 {
-            return Ok((colored, true));
+            return Ok(colored);
         }
         let len = self.read(bytes)?;
         if len == 0 {
-            return Ok((0, styled));
+            return Ok(0);
+        }
+        if !is_noted(&self.actions) {
+            rendition.take_all(passing, &self.actions, out)?;
+            return Ok(len);
         }
         let before = out.len();
-        let last = append_styles(depth, &self.actions, out)?;
+        self.places.append_all(passing.depth, &self.actions, out)?;
         let text = out.split_at(before).1;
-        self.keep(depth, last, bytes, len, text)?;
-        Ok((len, last.unwrap_or(styled)))
+        self.places.write_note(passing.depth, text, &mut self.note)?;
+        let note_len = self.note.len();
+        self.note.extend_from_slice(&[0; 32])?;
+        let note = self.note.split_at(note_len).0;
+        rendition.take_note(passing, note, &self.note);
+        self.known.keep(bytes, len, note);
+        Ok(len)
     }
 }

@@ -122,8 +122,12 @@ pub fn clean_all_in<R: Read, W: Write>(
         (R.remaining input.old) (R.remaining input.new)
         (W.contents output.old) (W.contents output.new) }
 {
-    let links = false;
-    clean_all_with(alloc, Passing { depth, links }, input, output)
+    let passing = Passing {
+        depth,
+        links: false,
+        restores: true,
+    };
+    clean_all_with(alloc, passing, input, output)
 }
 
 /// The same with what passes, as [`clean_with`](crate::clean_with) leaves it.

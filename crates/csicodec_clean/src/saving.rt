@@ -2,7 +2,7 @@
 ghost use Rattle.std.specs.Prelude.{◌≡◌};
 ghost use Rattle.csicodec_parser.specs.ActionOf.{action_of};
 ghost use Rattle.csicodec_actions.specs.{Devices.device_of, Actions.Device as OfDevice};
-ghost use Rattle.csicodec_clean.specs.Saving.{behind_effect, clears, effect_of, escape_effect, if_saving, is_lasting, is_saving, plain_looks, sets};
+ghost use Rattle.csicodec_clean.specs.Saving.{behind_effect, effect_of, escape_effect, if_saving, is_lasting, is_saving, plain_looks, sets};
 
 use csicodec_actions::{Cursor, DecPrivateMode, Device, Mode};
 use csicodec_base::{DecPrivateModeCode, Sgr};
@@ -102,14 +102,6 @@ pub fn sets(effect: Option<Effect>) -> bool
     ensures { result ≡ sets effect }
 {
     matches!(effect, Some(Effect::Sets(_) | Effect::Clears))
-}
-
-/// Whether all is set back by it.
-#[inline(always)]
-pub(crate) fn clears(effect: Option<Effect>) -> bool
-    ensures { result ≡ clears effect }
-{
-    matches!(effect, Some(Effect::Clears))
 }
 
 /// Whether what is saved stays, and isn't brought back by it.

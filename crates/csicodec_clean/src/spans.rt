@@ -1,13 +1,15 @@
 //! The spans of a stream, and what is left of them.
-ghost use Rattle.std.specs.Prelude.{◌≡◌, ◌≢◌, ◌<◌, ◌≤◌, ◌++◌, ℕ, List, [], length, MatchOption, OnOk, IfOk};
+ghost use Rattle.std.specs.Prelude.{◌≡◌, ◌≢◌, ◌<◌, ◌≤◌, ◌++◌, ◌∷◌, ℕ, List, [], length, MatchOption, OnOk, IfOk};
+ghost use Rattle.csicodec_looks.specs.Sets.{char_in};
 ghost use Rattle.csicodec_tokens.specs.Sequence.{Seq};
 ghost use Rattle.csicodec_spans.specs.{declared.table.Kind.TheVariants.Csi as Sequence, Parts.IsUnsure};
-ghost use Rattle.csicodec_clean.specs.{Cleaned.AreGiven, Shown.chars_as, Private.Steps.GoesTo, Private.Steps.IsAppended, Private.Steps.ReadsTo};
-ghost use Rattle.csicodec_clean.specs.{Private.Steps.state_of};
+ghost use Rattle.csicodec_clean.specs.{Cleaned.AreGiven, Sets.behind, Sets.in_use, Sets.shifted, Shown.chars_as, Shown.run_as, Private.Steps.DrawsTo};
+ghost use Rattle.csicodec_clean.specs.{Private.Steps.GoesTo, Private.Steps.IsAppended, Private.Steps.ReadsTo, Private.Steps.state_of};
 
 use crate::glance::append_front;
+use crate::reading::{Reading, Sets};
 use crate::rule::Rule;
-use crate::text::{append_shown, append_sure};
+use crate::text::{append_char, append_shown, append_sure};
 use crate::title::{read_as, title_behind};
 use csicodec_base::CsiParam;
 use csicodec_spans::{Cutter, Kind, Mode};
@@ -15,9 +17,8 @@ use csicodec_tokens::Count;
 use csicodec_transform::keep_from;
 use std::alloc::AllocError;
 
-/// Appends what is shown of the text, as far as it is sure; `held` are the bytes before it that aren't, and then those at its
-/// end.
-fn append_text<T: Rule>(
+/// Appends what is shown of bytes, as far as it is sure; `held` are the bytes before them that aren't, and then those at their end.
+fn append_bytes<T: Rule>(
     held: &mut Vec<u8>,
     bytes: &[u8],
     out: &mut Vec<u8>,
@@ -35,6 +36,82 @@ fn append_text<T: Rule>(
     held.extend_from_slice(bytes)?;
     let sure = held.len() - append_sure::<T>(held, out)?.len();
     keep_from(held, sure);
+    Ok(())
+}
+
+/// Appends what is shown of the bytes that are held: nothing of their character follows.
+#[inline(always)]
+fn append_held<T: Rule>(held: &mut Vec<u8>, out: &mut Vec<u8>) -> Result<(), AllocError>
+    ensures none { OnOk result (held.new.items ≡ []) }
+    ensures shown { OnOk result (out.new.items ≡ out.old.items ++ run_as T.gives.writing held.old.items) }
+{
+    if held.is_empty() {
+        return Ok(());
+    }
+    append_shown::<T>(held, out)?;
+    held.clear();
+    Ok(())
+}
+
+/// Appends what is shown of a byte of ASCII, as the sets draw it.
+fn append_one<T: Rule>(
+    held: &mut Vec<u8>,
+    sets: &mut Sets,
+    byte: u8,
+    out: &mut Vec<u8>,
+) -> Result<(), AllocError>
+    requires { byte < 128 }
+    ensures none { OnOk result (held.new.items ≡ []) }
+    ensures sets { OnOk result (sets.new ≡ shifted sets.old byte) }
+    ensures shown { OnOk result (out.new.items ≡ out.old.items ++ (run_as T.gives.writing held.old.items
+        ++ chars_as T.gives.writing (char_in (in_use sets.old) byte ∷ []))) }
+{
+    append_held::<T>(held, out)?;
+    append_char::<T>(sets.in_use().char(char::from(byte)), out)?;
+    sets.shift(byte);
+    Ok(())
+}
+
+/// Appends what is shown of some bytes of text in front, as the sets draw them, and answers the others.
+fn append_some<'a, T: Rule>(
+    held: &mut Vec<u8>,
+    sets: &mut Sets,
+    bytes: &'a [u8],
+    out: &mut Vec<u8>,
+) -> Result<&'a [u8], AllocError>
+    ensures draws { IfOk result (λ rest. DrawsTo T.gives.writing sets.old held.old.items bytes.now rest.now
+        sets.new held.new.items out.old.items out.new.items) }
+    ensures less { IfOk result (λ rest. 0 < length bytes.now → length rest.now < length bytes.now) }
+    ensures short { OnOk result (length held.old.items ≤ 3 → length held.new.items ≤ 3) }
+{
+    let (front, rest) = sets.split_same(bytes);
+    if !front.is_empty() {
+        append_bytes::<T>(held, front, out)?;
+        return Ok(rest);
+    }
+    let Some((byte, others)) = bytes.split_first() else {
+        return Ok(bytes);
+    };
+    append_one::<T>(held, sets, *byte, out)?;
+    Ok(others)
+}
+
+/// Appends what is shown of the text, as the sets draw it, as far as it is sure; `held` are the bytes before it that aren't, and then those at
+/// its end.
+fn append_text<T: Rule>(
+    held: &mut Vec<u8>,
+    sets: &mut Sets,
+    bytes: &[u8],
+    out: &mut Vec<u8>,
+) -> Result<(), AllocError>
+    ensures draws { OnOk result (DrawsTo T.gives.writing sets.old held.old.items bytes.now []
+        sets.new held.new.items out.old.items out.new.items) }
+    ensures short { OnOk result (length held.old.items ≤ 3 → length held.new.items ≤ 3) }
+{
+    let mut rest = bytes;
+    while !rest.is_empty() {
+        rest = append_some::<T>(held, sets, rest, out)?;
+    }
     Ok(())
 }
 
@@ -59,6 +136,7 @@ fn append_span<T: Rule>(
     params: &[CsiParam],
     control: Option<char>,
     held: &mut Vec<u8>,
+    sets: &mut Sets,
     kind: Kind,
     bytes: &[u8],
     out: &mut Vec<u8>,
@@ -67,15 +145,16 @@ fn append_span<T: Rule>(
         (λ final. (kind ≡ Sequence) × Seq bytes.now params.now final) }
     ensures appended { OnOk result
         ((more : List ℕ)
-        × IsAppended T.gives kind rule.old held.old.items bytes.now more rule.new held.new.items
+        × IsAppended T.gives sets.old kind rule.old held.old.items bytes.now more rule.new held.new.items
         × (out.new.items ≡ out.old.items ++ more)) }
-    ensures short { OnOk result (length held.new.items ≤ 3) }
+    ensures sets { OnOk result (sets.new ≡ behind sets.old kind bytes.now) }
+    ensures short { OnOk result (length held.old.items ≤ 3 → length held.new.items ≤ 3) }
 {
     if kind == Kind::Text {
-        return append_text::<T>(held, bytes, out);
+        return append_text::<T>(held, sets, bytes, out);
     }
-    append_shown::<T>(held, out)?;
-    held.clear();
+    append_held::<T>(held, out)?;
+    sets.pass(kind, bytes);
     match control {
         Some(control) => rule.rewrite(bytes, params, control, out),
         None if kind == Kind::Esc => rule.escape(bytes, out),
@@ -86,12 +165,12 @@ fn append_span<T: Rule>(
 
 /// Appends what is left of all spans of the bytes that are sure, and answers the bytes that aren't, and the mode there.
 ///
-/// `held` are the bytes of the run of text before them that aren't read yet, three at most; `titled` says whether a title is open.
+/// `held` are the bytes of the run of text before them that aren't read yet, three at most; `reading` says how text is read.
 pub(crate) fn append_clean<'a, T: Rule>(
     rule: &mut T,
     params: &mut Vec<CsiParam>,
     held: &mut Vec<u8>,
-    titled: &mut bool,
+    reading: &mut Reading,
     limit: usize,
     mode: Mode,
     bytes: &'a [u8],
@@ -100,21 +179,30 @@ pub(crate) fn append_clean<'a, T: Rule>(
     requires { 0 < limit }
     ensures unsure { IfOk result (λ (rest, after). IsUnsure limit after rest.now) }
     ensures goes { IfOk result
-        (λ (rest, after). GoesTo T.gives limit (state_of rule.old mode titled.old bytes.now held.old.items)
-        (state_of rule.new after titled.new rest.now held.new.items) out.old.items out.new.items) }
+        (λ (rest, after). GoesTo T.gives limit (state_of rule.old mode reading.old bytes.now held.old.items)
+        (state_of rule.new after reading.new rest.now held.new.items) out.old.items out.new.items) }
     ensures short { OnOk result (length held.old.items ≤ 3 → length held.new.items ≤ 3) }
 {
     let mut looks = Count::new();
     let mut cutter = Cutter { mode, rest: bytes };
     loop {
         let open = cutter.mode;
-        let rest = append_front(rule, limit, open, *titled, held, cutter.rest, out)?;
+        let rest = append_front(rule, reading, limit, open, held, cutter.rest, out)?;
         cutter.rest = rest;
         let Some((span, control)) = cutter.next(limit, params, &mut looks)? else {
             return Ok((rest, open));
         };
-        let kind = read_as(span.kind, *titled);
-        append_span(rule, params, control, held, kind, span.bytes, out)?;
-        *titled = title_behind(*titled, span.kind, span.bytes);
+        let kind = read_as(span.kind, reading.titled);
+        append_span(
+            rule,
+            params,
+            control,
+            held,
+            &mut reading.sets,
+            kind,
+            span.bytes,
+            out,
+        )?;
+        reading.titled = title_behind(reading.titled, span.kind, span.bytes);
     }
 }

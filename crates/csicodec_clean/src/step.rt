@@ -2,6 +2,7 @@
 ghost use Rattle.std.specs.Prelude.{◌≡◌, ◌≤◌, ◌++◌, ℕ, List, length, drop, OnOk, IfOk};
 ghost use Rattle.csicodec_clean.specs.{Cleaned.drops, Steps.Steps, Steps.bare, Steps.beginning, Steps.ending, Styled.resumed, Styled.keeps};
 
+use crate::reading::Reading;
 use crate::rule::Rule;
 use crate::spans::append_clean;
 use crate::styles::Kept;
@@ -21,8 +22,8 @@ use std::alloc::{AllocError, Global};
 pub struct Pause {
     /// What the bytes leave open, of which the next ones are more.
     pub mode: Mode,
-    /// Whether a title is open, of tmux and screen.
-    pub titled: bool,
+    /// How text is read: whether a title is open, of tmux and screen, and the graphic sets.
+    pub reading: Reading,
     /// Whether a style is open, which a reset is to end.
     pub styled: bool,
     /// How many of the bytes that come again, at their front, are the beginning of a character: 0 to 3. A step needs as many bytes at
@@ -37,7 +38,7 @@ impl Pause {
     {
         Pause {
             mode: Mode::Text,
-            titled: false,
+            reading: Reading::first(),
             styled: false,
             held: 0,
         }
@@ -63,12 +64,12 @@ fn append_step<T: Rule>(
     let (front, behind) = bytes.split_at(pause.held);
     let mut held = Vec::new(alloc);
     held.extend_from_slice(front)?;
-    let mut titled = pause.titled;
+    let mut reading = pause.reading;
     let (rest, mode) = append_clean(
         rule,
         &mut Vec::new(alloc),
         &mut held,
-        &mut titled,
+        &mut reading,
         LIMIT,
         pause.mode,
         behind,
@@ -77,7 +78,7 @@ fn append_step<T: Rule>(
     let used = bytes.len() - (held.len() + rest.len());
     let after = Pause {
         mode,
-        titled,
+        reading,
         styled: pause.styled,
         held: held.len(),
     };
@@ -114,7 +115,8 @@ pub fn strip_step(
     append_step(alloc, &mut Dropped, pause, bytes, out)
 }
 
-/// The same with the styles that stay, as [`clean_in`](crate::clean_in) leaves them: `pause` tells whether one is open.
+/// The same with the styles that stay: `pause` tells whether one is open. It has no place for what DECSC saves, so DECRC brings nothing back, which
+/// [`clean_in`](crate::clean_in) does.
 ///
 /// ```text
 /// let (used, pause) = clean_step(alloc, Depth::Full, Pause::start(), b"\x1b[01;31mred", &mut out)?;     // appends "\x1b[1m\x1b[31mred"

@@ -1,91 +1,24 @@
 //! Bytes that are all there, with the styles of their text, and its links.
-ghost use Rattle.std.specs.{Prelude.◌≡◌, Prelude.◌++◌, Prelude.◌∷◌, Prelude.[], Prelude.ℕ, Prelude.List, Prelude.Bool, Prelude.map, Prelude.drop, Prelude.OnOk};
-ghost use Rattle.std.specs.{Prelude.IfOk, Prelude.false, Option.unwrap_or};
-ghost use Rattle.csicodec_actions.specs.{Actions.Sgr as SgrAction, Table.texts};
-ghost use Rattle.csicodec_parser.specs.ActionOf.{action_of};
-ghost use Rattle.csicodec_clean.specs.Styled.{Styles, StylesIn, IsStyled, IsStyledIn, Keeping, first_kept, is_decstr, is_open, keeping, kept, resumed, set_back, without_links};
-ghost use Rattle.csicodec_clean.specs.Marked.{IsMarked};
+ghost use Rattle.std.specs.Prelude.{◌≡◌, [], false, IfOk};
+ghost use Rattle.csicodec_clean.specs.Styled.{Styles, StylesIn, IsStyled, IsStyledIn, Keeping, first_kept, keeping, rendition, resumed, spelled, without_links};
+ghost use Rattle.csicodec_clean.specs.{Links.start, Marked.IsMarked};
 
 use crate::links::LinkReader;
 use crate::notes::{SequenceNotes, append_noted};
+use crate::rendition::Rendition;
 use crate::rule::{Anew, Rule};
-use crate::saving::{clears, escape_effect};
+use crate::saving::escape_effect;
 use crate::text::append_front;
 use crate::whole::{clean_whole, near};
 use bstr::ByteVec;
-use csicodec_base::{CsiParam, Font, Sgr};
+use csicodec_base::{CsiParam, Sgr};
 use csicodec_looks::LANES;
-use csicodec_looks::xterm::{Depth, reduced};
+use csicodec_looks::xterm::Depth;
 use csicodec_parser::CSI;
 use csicodec_streams::encode;
 use csicodec_terminal::terminal_actions_into;
 use std::alloc::{AllocError, Global};
 use std::marker::Model;
-
-/// Appends the text of the action, if it is a style that stays, and answers then whether a style is open behind it, and else what was told
-/// of those before it.
-#[tactic(auto, using(crate::proofs::Styled::reset_reduced))]
-fn append_style(
-    depth: Depth,
-    action: &CSI,
-    last: Option<bool>,
-    out: &mut Vec<u8>,
-) -> Result<Option<bool>, AllocError>
-    ensures text { OnOk result
-        (out.new.items
-        ≡ out.old.items ++ texts (map SgrAction (kept depth (action_of action.now ∷ [])))) }
-    ensures last { IfOk result (λ now. (styled : Bool)
-        → is_open (unwrap_or last styled) (kept depth (action_of action.now ∷ [])) ≡ unwrap_or now styled) }
-{
-    let CSI::Sgr(style) = action else {
-        return Ok(last);
-    };
-    if matches!(style, Sgr::Invisible(true) | Sgr::Font(Font::Alternate(_))) {
-        return Ok(last);
-    }
-    encode(&CSI::Sgr(reduced(depth, *style)), out)?;
-    Ok(Some(!matches!(style, Sgr::Reset)))
-}
-
-/// Appends the styles of each of the actions in turn, and answers whether one is open behind them; None where none of them stays.
-pub(crate) fn append_styles(
-    depth: Depth,
-    actions: &[CSI],
-    out: &mut Vec<u8>,
-) -> Result<Option<bool>, AllocError>
-    ensures text { OnOk result
-        (out.new.items
-        ≡ out.old.items ++ texts (map SgrAction (kept depth (map action_of actions.now)))) }
-    ensures last { IfOk result (λ last. (styled : Bool)
-        → is_open styled (kept depth (map action_of actions.now)) ≡ unwrap_or last styled) }
-{
-    let mut last = None;
-    let mut rest = actions;
-    while let Some((action, others)) = rest.split_first() {
-        last = append_style(depth, action, last, out)?;
-        rest = others;
-    }
-    Ok(last)
-}
-
-/// Whether a control sequence is DECSTR, which sets all attributes back.
-fn is_decstr(bytes: &[u8]) -> bool
-    ensures { result ≡ is_decstr bytes.now }
-{
-    bytes.len() == 4 && bytes[2] == b'!' && bytes[3] == b'p'
-}
-
-/// Appends a reset, if a style is open, and answers whether one is then: none.
-#[tactic(auto, using(crate::proofs::Styled::back_shut))]
-fn append_back(styled: bool, out: &mut Vec<u8>) -> Result<bool, AllocError>
-    ensures text { OnOk result (out.new.items ≡ out.old.items ++ texts (map SgrAction (set_back styled))) }
-    ensures last { IfOk result (λ after. after ≡ is_open styled (set_back styled)) }
-{
-    if styled {
-        encode(&CSI::Sgr(Sgr::Reset), out)?;
-    }
-    Ok(false)
-}
 
 /// What passes beside text and styles.
 #[derive(Clone, Copy, PartialEq, Eq, Debug)]
@@ -95,6 +28,8 @@ pub struct Passing {
     /// Whether links pass (OSC 8) to a host by http or https whose address is visible ASCII, of at most 2,083 bytes, and has no user's
     /// name, with at most 256 bytes of parameters. Any other address passes as none, and ends the link before it.
     pub links: bool,
+    /// Whether DECRC brings back the styles that DECSC saved.
+    pub restores: bool,
 }
 
 /// The rule that keeps the known styles but concealed text and fonts, in their normal form, and ends the output with a reset where one is open; and
@@ -102,7 +37,7 @@ pub struct Passing {
 #[derive(Drop)]
 pub struct Kept {
     passing: Passing,
-    styled: bool,
+    rendition: Rendition,
     linked: bool,
     link: LinkReader,
     notes: SequenceNotes,
@@ -117,41 +52,49 @@ impl Model for Kept {
     ghost use Rattle.csicodec_clean.specs.Private.Notes.{IsNoted};
     ghost use Rattle.csicodec_transform.specs.Known.{AreKnown};
 
-    ghost view = { λ k. keeping k.passing k.styled k.linked (come k.link) };
+    ghost view = { λ k. keeping k.passing k.rendition k.linked (come k.link) };
 
     ghost invariant = { λ k. AreKnown IsNoted k.notes.known.memo.slots.items };
 }
 
 impl Kept {
-    /// In the middle of a stream, where no links pass.
+    /// With a style open or none, and no link.
+    fn opened(alloc: Global, passing: Passing, styled: bool) -> Kept
+        ensures { result ≡ keeping passing (spelled (rendition styled [] [])) false start }
+    {
+        Kept {
+            passing,
+            rendition: Rendition::new(styled),
+            linked: false,
+            link: LinkReader::new(alloc),
+            notes: SequenceNotes::new(alloc),
+        }
+    }
+
+    /// In the middle of a stream, where no links pass, and no styles are brought back.
     pub(crate) fn resumed(alloc: Global, depth: Depth, styled: bool) -> Kept
         ensures { result ≡ resumed depth styled }
     {
-        let links = false;
-        Kept {
-            styled,
-            ..Kept::letting(alloc, Passing { depth, links })
-        }
+        let passing = Passing {
+            depth,
+            links: false,
+            restores: false,
+        };
+        Kept::opened(alloc, passing, styled)
     }
 
     /// Whether a style is open.
     pub(crate) fn is_styled(&self) -> bool
-        ensures { result ≡ self.now.styled }
+        ensures { result ≡ self.now.rendition.styled }
     {
-        self.styled
+        self.rendition.is_styled()
     }
 
     /// At the beginning of a stream, where no style is open.
     pub fn letting(alloc: Global, passing: Passing) -> Kept
         ensures { result ≡ first_kept passing }
     {
-        Kept {
-            passing,
-            styled: false,
-            linked: false,
-            link: LinkReader::new(alloc),
-            notes: SequenceNotes::new(alloc),
-        }
+        Kept::opened(alloc, passing, false)
     }
 }
 
@@ -172,7 +115,6 @@ impl Rule for Kept {
         out.push_char(char)
     }
 
-    #[tactic(auto, using(crate::proofs::Styled::sequence_back, crate::proofs::Styled::sequence_kept))]
     fn rewrite(
         &mut self,
         bytes: &[u8],
@@ -180,17 +122,10 @@ impl Rule for Kept {
         control: char,
         out: &mut Vec<u8>,
     ) -> Result<(), AllocError> {
-        let depth = self.passing.depth;
+        let passing = self.passing;
         let actions = &mut self.notes.actions;
         terminal_actions_into(self.notes.alloc, params, false, control, actions)?;
-        if is_decstr(bytes) {
-            let styled = append_back(self.styled, out)?;
-            self.styled = styled;
-            return Ok(());
-        }
-        let last = append_styles(depth, &self.notes.actions, out)?;
-        self.styled = last.unwrap_or(self.styled);
-        Ok(())
+        self.rendition.take_all(passing, &self.notes.actions, out)
     }
 
     #[inline(always)]
@@ -200,32 +135,24 @@ impl Rule for Kept {
         bytes: &[u8],
         out: &mut Vec<u8>,
     ) -> Result<usize, AllocError> {
-        let depth = self.passing.depth;
         let known = self.notes.known.look(limit, bytes);
         if known == 0 {
             let front = near(limit, bytes);
-            let (len, styled) = self.notes.take_new(depth, self.styled, front, out)?;
-            self.styled = styled;
+            let len = self
+                .notes
+                .take_new(self.passing, &mut self.rendition, front, out)?;
             return Ok(len);
         }
-        match append_noted(&self.notes.known, depth, self.styled, out)? {
-            Some(styled) => {
-                self.styled = styled;
-                Ok(known)
-            }
-            None => Ok(0),
+        if append_noted(&self.notes.known, self.passing, &mut self.rendition, out)? {
+            return Ok(known);
         }
+        Ok(0)
     }
 
-    #[tactic(auto, using(crate::proofs::Styled::escape_back, crate::proofs::Styled::escape_none))]
     #[inline(always)]
     fn escape(&mut self, bytes: &[u8], out: &mut Vec<u8>) -> Result<(), AllocError> {
-        if !clears(escape_effect(bytes)) {
-            return Ok(());
-        }
-        let styled = append_back(self.styled, out)?;
-        self.styled = styled;
-        Ok(())
+        let passing = self.passing;
+        self.rendition.take(passing, escape_effect(bytes), out)
     }
 
     #[tactic(auto, using(crate::proofs::Styled::gives_none))]
@@ -245,7 +172,7 @@ impl Rule for Kept {
         if self.linked {
             out.extend_from_slice(b"\x1b]8;;\x1b\\")?;
         }
-        if self.styled {
+        if self.is_styled() {
             encode(&CSI::Sgr(Sgr::Reset), out)?;
         }
         Ok(())
@@ -261,7 +188,7 @@ impl Anew<Passing> for Kept {
 
     fn begin(&mut self, by: Passing) {
         self.passing = by;
-        self.styled = false;
+        self.rendition.clear();
         self.linked = false;
         self.link.clear();
     }
@@ -297,15 +224,19 @@ pub fn clean_in(alloc: Global, depth: Depth, bytes: &[u8]) -> Result<Vec<u8>, Al
     ensures safe { IfOk result (λ out. IsStyledIn (without_links depth) out.items) }
     ensures marked { IfOk result (λ out. IsMarked false out.items) }
 {
-    let links = false;
-    clean_with(alloc, Passing { depth, links }, bytes)
+    let passing = Passing {
+        depth,
+        links: false,
+        restores: true,
+    };
+    clean_with(alloc, passing, bytes)
 }
 
 /// The same with what passes: where links do, each whose address may, in its normal form, which ST ends. Where the last of them has
 /// an address, one without ends the output, so that what is written next leads nowhere.
 ///
 /// ```text
-/// let passing = Passing { depth: Depth::Full, links: true };
+/// let passing = Passing { depth: Depth::Full, links: true, restores: true };
 /// clean_with(alloc, passing, b"\x1b]8;;http://a.example\x07text")?      // "\x1b]8;;http://a.example\x1b\\text\x1b]8;;\x1b\\"
 /// ```
 pub fn clean_with(alloc: Global, passing: Passing, bytes: &[u8]) -> Result<Vec<u8>, AllocError>

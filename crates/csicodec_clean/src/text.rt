@@ -16,19 +16,19 @@ pub fn is_shown(char: char) -> bool
     char == '\n' || char == '\t' || ' ' <= char && (char < '\u{7f}' || '\u{a0}' <= char)
 }
 
-/// Whether the byte is a control that is dropped, and no ESC.
+/// Whether the byte is a control that is dropped, and no ESC, SO or SI.
 #[inline(always)]
 fn is_dropped(byte: u8) -> bool
     ensures { result ≡ dropped_byte byte }
 {
-    if byte == 0x1b {
+    if byte == 0x1b || byte == 0x0e || byte == 0x0f {
         return false;
     }
     byte < b' ' && byte != b'\n' && byte != b'\t' || byte == 0x7f
 }
 
 /// Appends the character, if it is shown.
-fn append_char<T: Rule>(char: char, out: &mut Vec<u8>) -> Result<(), AllocError>
+pub(crate) fn append_char<T: Rule>(char: char, out: &mut Vec<u8>) -> Result<(), AllocError>
     ensures { OnOk result
         (out.new.items ≡ out.old.items ++ chars_as T.gives.writing (char ∷ [])) }
 {
@@ -93,7 +93,7 @@ fn append_plain<'a, T: Rule>(bytes: &'a [u8], out: &mut Vec<u8>) -> Result<&'a [
     Ok(rest)
 }
 
-/// Appends what is shown of the text in front, up to an ESC, a control of C1 or what is no UTF-8, and answers what is behind it.
+/// Appends what is shown of the text in front, up to an ESC, SO, SI, a control of C1 or what is no UTF-8, and answers what is behind it.
 #[tactic(auto, using(crate::proofs::Told::tells_none))]
 #[inline(always)]
 pub(crate) fn append_told<'a, T: Rule>(

@@ -2,6 +2,7 @@
 ghost use Rattle.std.specs.Prelude.{◌≡◌, ◌≢◌, ◌++◌, ℕ, List, [], All, IfOk, take};
 ghost use Rattle.csicodec_clean.specs.{Shown.IsPlain, Cleaned.Ends, Cleaned.Strips, Cleaned.longest};
 
+use crate::reading::Reading;
 use crate::rule::{Anew, Rule};
 use crate::spans::append_clean;
 use crate::text::{append_front, append_shown};
@@ -27,7 +28,7 @@ pub fn clean_whole<T: Rule>(
         rule,
         &mut params,
         &mut held,
-        &mut false,
+        &mut Reading::first(),
         LIMIT,
         Mode::Text,
         bytes,

@@ -394,4 +394,4 @@ does the same, unless standard input is a terminal.
   -h, --help     Show this text.";
 
 /// The program's name and version.
-pub const VERSION: &str = "csicodec 1.25.0";
+pub const VERSION: &str = "csicodec 1.26.0";

@@ -5,8 +5,8 @@ use Rattle.csicodec_html.proofs.Common.{Effect, Look, Looks, Markup, behind_all,
 use Rattle.csicodec_html.proofs.Marks.{pieces}
 use Rattle.csicodec_clean.specs.Page.{behind_string, led_by, switches, AreLeft, Leaves, pieces_behind, run_behind, shown_pieces, chars_of}
 use Rattle.csicodec_clean.specs.{Links.Address, Links.Begun, Links.behind, Links.links_at, Links.links_in, Links.next, Links.IsWithin, Cleaned.AreGiven}
-use Rattle.csicodec_clean.specs.{Cleaned.IsStep, Cleaned.AreSteps, Cleaned.is_text, Cleaned.stripped, Shown.run_as, Shown.shown, Shown.shown_text}
-use Rattle.csicodec_clean.specs.{Titles.with_titles}
+use Rattle.csicodec_clean.specs.{Cleaned.IsStep, Cleaned.AreSteps, Cleaned.is_text, Cleaned.stripped, Shown.run_as, Shown.shown, Shown.shown_text, Sets.as_read}
+use Rattle.csicodec_clean.specs.{Sets.first_reading}
 use Rattle.csicodec_html.specs.Rule.{behind_byte}
 use Rattle.csicodec_looks.specs.{Paint.same, contracts.look.LookEq.TheImpl.Laws.laws-law}
 use Rattle.bstr.specs.Utf8.{lossy_chars}
@@ -127,7 +127,7 @@ left_of (p ∷ parts) s after run text last h (first, mid, next, others, is, e, 
 pub page_of : (m : Markup) (s : Setting) (bytes page : List ℕ) → s ≡ first_set m → Ends turns closes longest s bytes page → PageWith m bytes page
 page_of m s bytes page starts h =
     let e : Ends turns closes longest (first_set m) bytes page = rw starts at h in
-    let (pieces, left, shown) = left_of (with_titles false e.parts) (first_set m) e.after [] e.before e.run none_begun e.steps in
+    let (pieces, left, shown) = left_of (as_read first_reading e.parts) (first_set m) e.after [] e.before e.run none_begun e.steps in
     record {
       parts = e.parts;
       whole = e.whole;
@@ -197,8 +197,8 @@ text_left (p ∷ parts) s run ps (own, after, others, leaves, e, rest) =
 
 pub text_stays : (m : Markup) (bytes page text : List ℕ) (p : PageWith m bytes page) → Strips longest bytes text → text ≡ text_of p.pieces
 text_stays m bytes page text p s =
-    s.left ∙ ap (λ (ps : List Part). stripped [] (with_titles false ps)) (whole_once longest Mode.Text bytes s.parts p.parts s.whole p.whole)
-    ∙ sym (text_left (with_titles false p.parts) (first_set m) [] p.pieces p.left)
+    s.left ∙ ap (λ (ps : List Part). stripped [] (as_read first_reading ps)) (whole_once longest Mode.Text bytes s.parts p.parts s.whole p.whole)
+    ∙ sym (text_left (as_read first_reading p.parts) (first_set m) [] p.pieces p.left)
 
 -- ---- one page
 
@@ -217,5 +217,5 @@ left_once (p ∷ parts) s run xs ys (own, after, others, leaves, e, rest) (own',
 pub one_page : (m : Markup) (bytes page other : List ℕ) → PageWith m bytes page → PageWith m bytes other → page ≡ other
 one_page m bytes page other p q =
     let same = whole_once longest Mode.Text bytes p.parts q.parts p.whole q.whole in
-    let left = subst (λ (ps : List Part). AreLeft (first_set m) [] (with_titles false ps) p.pieces) same p.left in
-    p.all ∙ ap piece_texts (left_once (with_titles false q.parts) (first_set m) [] p.pieces q.pieces left q.left) ∙ sym q.all
+    let left = subst (λ (ps : List Part). AreLeft (first_set m) [] (as_read first_reading ps) p.pieces) same p.left in
+    p.all ∙ ap piece_texts (left_once (as_read first_reading q.parts) (first_set m) [] p.pieces q.pieces left q.left) ∙ sym q.all

@@ -4,7 +4,7 @@ use Rattle.std.proofs.{lemmas.Bool.and_from, lemmas.Bool.and_parts, lemmas.List.
 use Rattle.std.specs.{Char.encode_utf8, Str.all_scalars}
 use lib.Utf8.{scalar}
 use Rattle.csicodec_transform.proofs.Sent.{goes_on}
-use Rattle.csicodec_clean.specs.{Shown.IsShown, Shown.written, Stream.Between, Stream.Takes}
+use Rattle.csicodec_clean.specs.{Sets.first_sets, Shown.IsShown, Shown.written, Stream.Between, Stream.Takes}
 use Rattle.csicodec_clean.proofs.{Chunks.takes_none, Chunks.over_told, Plain.shown_none, Plain.written_none, Plain.written_on, Told.alone, Told.plain_told}
 use Rattle.csicodec_clean.proofs.{Told.all_kept}
 use Rattle.csicodec_lines.specs.{Lines.ends_line, Private.Steps.IsWithin, Stream.Passes}
@@ -40,7 +40,7 @@ module _ {S P : Type 0} (Begins : P → S) (Gives : RuleOf S) (Closes : EndOf S)
       let bytes = encode_utf8 c in
       let all : AllByRecursion IsShown (c ∷ []) = (shown, tt) in
       let told = plain_told bytes (c ∷ [], and_from (scalar c) true is refl, all, sym (append-nil bytes)) in
-      let (appended, out, goes, front, last) = over_told Gives longest s bytes [] [] (Text (c ∷ [])) (bytes, c ∷ [], sym (append-nil bytes), told, ap Text (sym (all_kept (c ∷ []) all))) in
+      let (appended, out, goes, front, last) = over_told Gives longest s first_sets bytes [] [] (Text (c ∷ [])) refl (bytes, c ∷ [], sym (append-nil bytes), told, ap Text (sym (all_kept (c ∷ []) all))) in
       record { unsure = (takes_none Gives s).unsure; goes = rw out goes }
 
   -- a line begins, and its rule ends it without a byte

@@ -2,7 +2,7 @@
 use Rattle.std.proofs.Common.{◌≡◌, ℕ, false, List, [], ◌∷◌, ◌++◌, refl, sym, ap, ◌∙◌, append_assoc, append-nil}
 use Rattle.csicodec_clean.specs.{Shown.shown, Styled.IsSafe, Styled.IsStyledIn, Styled.Shown, Styled.item_texts, Styled.links_of, Styled.styles_of}
 use Rattle.csicodec_clean.specs.{declared.styles.Passing.Passing}
-use Rattle.csicodec_clean.proofs.{Linked.linked_on, Plain.strips_plain, Plain.text_on, Plain.all_both, Styled.links_both, Styled.open_on, Styled.styled}
+use Rattle.csicodec_clean.proofs.{Linked.linked_on, Plain.strips_plain, Plain.text_on, Plain.all_both, Rendered.open_on, Styled.links_both, Styled.styled}
 use Rattle.csicodec_clean.proofs.{Styled.styles_both, Styled.texts_both}
 use Rattle.csicodec_lines.specs.Lines.{AreOf, joined}
 use Rattle.csicodec_lines.proofs.Common.{IsPlain, Strips, longest, StylesIn, ByLines, ended}

@@ -1,5 +1,5 @@
 -- What is told of the parts of a stream, as it comes.
-use Rattle.std.proofs.Common.{◌≡◌, ◌<◌, ◌≤◌, ◌-◌, ℕ, List, [], ◌++◌, length, drop, refl, sym, ap, subst, ◌∙◌, append_assoc, append-nil, arith, length-append, flat_map}
+use Rattle.std.proofs.Common.{◌≡◌, ◌≤◌, ◌-◌, ℕ, List, [], ◌++◌, length, drop, refl, sym, ap, subst, ◌∙◌, append_assoc, append-nil, arith, length-append, flat_map}
 use Rattle.csicodec_spans.specs.{Parts.Part, Parts.bytes_of, Parts.AreFirstParts, Parts.IsUnsure, declared.table.Mode.Mode}
 use Rattle.csicodec_spans.proofs.{Once.parts_join, Once.parts_more, Once.parts_on, OneSpan.none_unsure, Missed.rest_is}
 use Rattle.csicodec_filter.specs.Filter.{Held}

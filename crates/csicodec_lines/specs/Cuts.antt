@@ -1,4 +1,4 @@
--- Where a stream may be cut, so that each piece is as good as a stream of its own.
+-- Where a stream may be cut, so that each piece is as good as a stream of its own, but for the graphic sets that the one before it leaves.
 use Rattle.std.specs.Prelude.{ℕ, suc, ◌≡◌, ◌==◌, ◌+◌, Bool, true, false, ◌&&◌, ◌||◌, nat_le, nat_lt, if◌then◌else◌, List, [], ◌∷◌, ◌++◌, map, take}
 use Rattle.std.specs.{Fmt.decimal, List.flat_map}
 use Rattle.csicodec_spans.specs.{Parts.Part, Parts.part, Parts.AreFirstParts, Parts.IsWhole, declared.table.Kind.Kind, declared.table.Mode.Mode}

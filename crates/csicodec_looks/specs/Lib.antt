@@ -10,6 +10,7 @@ pub mod Palette
 pub mod Pieces
 pub mod Plain
 pub mod Row
+pub mod Sets
 pub mod Sheet
 pub mod Shown
 pub mod Sides

@@ -4,9 +4,11 @@ pub use Rattle.bstr.specs.Utf8.{lossy_chars}
 pub use Rattle.csicodec_actions.specs.{Actions.Action, Ranges.SgrInRange}
 pub use Rattle.csicodec_base.specs.declared.sgr.Sgr.{Sgr}
 pub use Rattle.csicodec_clean.proofs.Plain.{all_both, all_weaker, encoded_on, read_more, read_none, scalars_lossy, scalars_on}
-pub use Rattle.csicodec_clean.proofs.{Titles.single_texts, Titles.titles_on, Told.all_text, Told.encoded, Told.front_in, Told.is_shown}
+pub use Rattle.csicodec_clean.proofs.{Drawn.as_read_on, Drawn.read_on, Drawn.span_read, Titles.single_texts, Titles.titles_on, Told.all_text, Told.encoded, Told.front_in, Told.is_shown}
 pub use Rattle.csicodec_clean.specs.{Cleaned.Strips, Cleaned.longest, Cleaned.stripped, Shown.IsPlain, Shown.IsRead, Shown.IsShown, Shown.shown, Shown.shown_text}
-pub use Rattle.csicodec_clean.specs.{Titles.title_open, Titles.with_titles}
+pub use Rattle.csicodec_clean.specs.Sets.{as_read, drawn_text, first_reading, in_use, passed, read_behind}
+pub use Rattle.csicodec_clean.specs.{Titles.title_open, Titles.with_titles, declared.reading.Reading.Reading, declared.reading.Sets.Sets}
+pub use Rattle.csicodec_looks.specs.declared.sets.Set.TheVariants.{Ascii}
 pub use Rattle.csicodec_looks.proofs.Recalled.{same_look}
 pub use Rattle.csicodec_looks.specs.Cells.{begins_behind, belongs, chars_of, columns, emptied, erased, glyph, gone, is_empty, narrowed, of_tab, onto, outside, shifted, takes, to_tab_stop, trimmed, untabbed, width, without}
 pub use Rattle.csicodec_looks.specs.Line.{Done, HasRoom, before, behind_columns, blank, cells_of, do_all, does, does_here, done, entered, fits, forward, fresh, from_stop, in_row, is_row, leave, leaves_long, line, lines_of, most, over, parted, pen_behind, pen_behind_all, placed, put, repeat, repeated, shows_nothing, size, standing, target, to_stop, widest}
@@ -21,10 +23,10 @@ pub use Rattle.csicodec_looks.specs.{declared.marking.Marking.TheVariants.Styled
 pub use Rattle.csicodec_overwrite.specs.Lost.{NothingLost, NothingMade, again, all_came, all_taken, belonging, came, covered, left_out, tabs, taken, taken_again, taken_by, taken_by_all, taken_here, times, touched, under, whole, within}
 pub use Rattle.csicodec_overwrite.specs.Private.Front.{IsFront, IsStyled, IsWritten, IsWrittenTo, drawn, last_look, last_of_run, run_text}
 pub use Rattle.csicodec_overwrite.specs.Steps.{by_code, by_escape, of_action, of_actions, of_code, of_cursor, of_device, of_edit, of_escape, of_final, of_mode, of_run, of_sequence, of_string, of_terminal, of_wrong, switched}
-pub use Rattle.csicodec_overwrite.specs.{Private.Seen.IsSlice, Private.Seen.PassesFront, Private.Spans.GoesTo, Private.Spans.IsGiven, Reading.AreOfParts}
+pub use Rattle.csicodec_overwrite.specs.{Private.Seen.IsSlice, Private.Seen.PassesFront, Private.Spans.GoesTo, Private.Spans.IsAscii, Private.Spans.IsBare, Private.Spans.IsGiven, Reading.AreOfParts}
 pub use Rattle.csicodec_overwrite.specs.{Reading.IsOfPart, Reading.Overwrites, Reading.Pages, Reading.Paints, Reading.Shows, Reading.Steps, Stream.Ending}
-pub use Rattle.csicodec_overwrite.specs.{Stream.Goes, Stream.Held, Stream.Now, Stream.Passes, Stream.Reads, Stream.begun_as, Stream.none_held, Turned.AreLooks}
-pub use Rattle.csicodec_overwrite.specs.{Turned.IsInRange, Turned.IsLook, Turned.Sets, Turned.Turned, declared.front.LineFront.LineFront}
+pub use Rattle.csicodec_overwrite.specs.{Stream.Goes, Stream.Held, Stream.Now, Stream.Passes, Stream.Reads, Stream.begun_as, Stream.none_held, Stream.none_in, Turned.AreLooks}
+pub use Rattle.csicodec_overwrite.specs.{Turned.IsInRange, Turned.IsLook, Turned.SetsLook, Turned.Turned, declared.front.LineFront.LineFront}
 pub use Rattle.csicodec_spans.proofs.{Once.parts_more, Once.parts_on, OneSpan.none_unsure, OneSpan.singles}
 pub use Rattle.csicodec_spans.specs.{Parts.AreFirstParts, Parts.Part, Parts.part, declared.table.Kind.Kind}
 pub use Rattle.csicodec_transform.specs.Transform.{Sends, Transforms}

@@ -1,5 +1,5 @@
 -- The front of a line that is written as it comes, and its end.
-use Rattle.csicodec_overwrite.proofs.Common.{◌≡◌, ◌≤◌, ◌+◌, ◌-◌, ◌*◌, ℕ, zero, suc, Bool, true, false, cond, List, [], ◌∷◌, ◌++◌, length, length-append, replicate, refl, sym, ap, subst, ◌∙◌, append_assoc, append-nil, arith, ◌/◌, ◌==◌, unwrap_or, eqb-true, nat_tests, AllByRecursion, IsPlainByte, is_shown, Look, plain, Cell, Marking, Behind, Char, Glyph, Line, Page, Plain, Styled, Pen, Step, Done, before, behind_columns, blank, cells_of, do_all, does, done, line, pen_behind, pen_behind_all, put, IsFront, IsStyled, IsWritten, IsWrittenTo, drawn, last_look, last_of_run, run_text, AreFull, AreLines, IsLineByte, PutsPlain, closed, end_of, LineFront, Now, Passes, Reads, none_held, AreLooks, IsLook, Sets, of_chars, most, columns, glyph, narrowed, onto, to_tab_stop, width, ended, paint, shows_looks, text_of, texts_of, turn, written}
+use Rattle.csicodec_overwrite.proofs.Common.{◌≡◌, ◌≤◌, ◌+◌, ◌-◌, ◌*◌, ℕ, zero, suc, Bool, true, false, cond, List, [], ◌∷◌, ◌++◌, length, length-append, replicate, refl, sym, ap, subst, ◌∙◌, append_assoc, append-nil, arith, ◌/◌, ◌==◌, unwrap_or, eqb-true, nat_tests, AllByRecursion, IsPlainByte, is_shown, Look, plain, Cell, Marking, Behind, Char, Glyph, Line, Page, Plain, Styled, Pen, Step, Done, before, behind_columns, blank, cells_of, do_all, does, done, line, pen_behind, pen_behind_all, put, IsFront, IsStyled, IsWritten, IsWrittenTo, drawn, last_look, last_of_run, run_text, AreFull, AreLines, IsLineByte, PutsPlain, closed, end_of, LineFront, Now, Passes, Reads, Held, IsAscii, IsBare, Ascii, in_use, AreLooks, IsLook, SetsLook, of_chars, most, columns, glyph, narrowed, onto, to_tab_stop, width, ended, paint, shows_looks, text_of, texts_of, turn, written}
 use Rattle.csicodec_overwrite.proofs.{Stays.reads_end, Stays.reads_plain, Read.reads_none, Read.reads_on, Written.all_on, Written.passes_on, Written.pen_on}
 use Rattle.csicodec_looks.proofs.Stays.{few_cells, line_plain, lines_plain, narrow, cells, cells_full, cells_length, full_trimmed, put_cells, puts}
 use Rattle.csicodec_looks.proofs.{Texts.blank_written, Texts.turn_same, Texts.written_none, Texts.written_on, Texts.text_painted, Rows.standing_settled}
@@ -128,11 +128,11 @@ still limit (s ∷ steps) after pen left (mid, one, others) =
 
 -- ---- the front
 
-front_none : (marking : Marking) (pen : Pen) → IsFront marking pen [] [] plain pen.look
-front_none marking pen = record {
+front_none : (h : Held) (marking : Marking) (pen : Pen) → IsBare h → IsFront h marking pen [] [] plain pen.look
+front_none h marking pen bare = record {
   steps = [];
   cells = [];
-  reads = reads_none;
+  reads = reads_none h bare;
   lines = refl;
   line = refl;
   pens = refl;
@@ -142,19 +142,19 @@ front_none marking pen = record {
   drawn = refl;
 }
 
-module _ (marking : Marking) (pen : Pen) (bytes text : List ℕ) (last now : Look) (f : IsFront marking pen bytes text last now) where
+module _ (h : Held) (marking : Marking) (pen : Pen) (bytes text : List ℕ) (last now : Look) (ascii : IsAscii h) (f : IsFront h marking pen bytes text last now) where
   abbrev then : Pen
   then = pen_behind_all most pen f.steps blank
 
-  on : (more : List ℕ) (steps : List Step) (cells : List Cell) (whole : List ℕ) (next after : Look) → Reads none_held more steps none_held
+  on : (more : List ℕ) (steps : List Step) (cells : List Cell) (whole : List ℕ) (next after : Look) → Reads h more steps h
       → (do_all most then steps (line f.cells [])).lines ≡ [] → (do_all most then steps (line f.cells [])).line ≡ line cells []
       → closed (pen_behind_all most then steps (line f.cells [])) ≡ closed (record pen { look = after }) → AreFull cells
       → length cells ≤ length f.cells + 8 * length more → next ≡ last_look cells → whole ≡ drawn marking cells
-      → IsFront marking pen (bytes ++ more) whole next after
+      → IsFront h marking pen (bytes ++ more) whole next after
   on more steps cells whole next after reads lines is pens full few looks text = record {
     steps = f.steps ++ steps;
     cells = cells;
-    reads = reads_on none_held none_held none_held bytes more f.steps steps f.reads reads;
+    reads = reads_on h h h bytes more f.steps steps f.reads reads;
     lines = rw (all_on most f.steps steps pen blank, f.lines, f.line) lines;
     line = rw (all_on most f.steps steps pen blank, f.line) is;
     pens = rw (pen_on most f.steps steps pen blank, f.line) pens;
@@ -168,140 +168,145 @@ module _ (marking : Marking) (pen : Pen) (bytes text : List ℕ) (last now : Loo
   look_is = ap (λ (p : Pen). p.look) f.pens
 
   run_on : (run : List ℕ) → pen.inserts ≡ false → AllByRecursion IsLineByte run → 8 * length (bytes ++ run) ≤ most
-      → IsFront marking pen (bytes ++ run) (text ++ run_text marking last now run) (last_of_run last now run) now
-  run_on run over h few =
-      let plains = lines_plain run h in
-      let r = runs most marking then run f.cells (ap (λ (p : Pen). p.inserts) f.pens ∙ over) h f.full
+      → IsFront h marking pen (bytes ++ run) (text ++ run_text marking last now run) (last_of_run last now run) now
+  run_on run over line few =
+      let plains = lines_plain run line in
+      let r = runs most marking then run f.cells (ap (λ (p : Pen). p.inserts) f.pens ∙ over) line f.full
       (omega (arith, few, f.few, length-append bytes run)) in
-      on run (of_chars run) r.more (text ++ run_text marking last now run) (last_of_run last now run) now (reads_plain run plains) r.lines
+      on run (of_chars run) r.more (text ++ run_text marking last now run) (last_of_run last now run) now (reads_plain h run ascii plains) r.lines
       r.line (r.pens ∙ f.pens) r.full r.few (rw (f.looks, r.look, look_is) refl) (rw (f.drawn, f.looks, r.text, look_is) refl)
 
-  sets_on : (sequence : List ℕ) (after : Look) → Sets sequence now after → IsFront marking pen (bytes ++ sequence) text last after
+  sets_on : (sequence : List ℕ) (after : Look) → SetsLook h sequence now after → IsFront h marking pen (bytes ++ sequence) text last after
   sets_on sequence after (steps, reads, looks) =
       let (lines, is, pens) = still most steps after then f.cells (subst (λ (l : Look). AreLooks l steps after) (sym look_is) looks) in
       on sequence steps f.cells text last after reads lines is (pens ∙ ap (λ (p : Pen). record p { look = after }) f.pens) f.full
       (omega arith) f.looks f.drawn
 
-module _ (marking : Marking) (pen : Pen) (bytes before : List ℕ) where
+module _ (h : Held) (marking : Marking) (pen : Pen) (bytes before : List ℕ) (ascii : IsAscii h) where
   -- nothing yet
-  pub front_begins : IsWrittenTo marking pen bytes before bytes plain pen.look before
-  front_begins = ([], [], refl, front_none marking pen, sym (append-nil before))
+  pub front_begins : IsWrittenTo h marking pen bytes before bytes plain pen.look before
+  front_begins = ([], [], refl, front_none h marking pen ascii.0, sym (append-nil before))
 
   -- the text in front of the rest
-  pub run_written : (rest run behind mid after : List ℕ) (last now next : Look) → pen.inserts ≡ false → IsWrittenTo marking pen bytes before rest last now mid
+  pub run_written : (rest run behind mid after : List ℕ) (last now next : Look) → pen.inserts ≡ false → IsWrittenTo h marking pen bytes before rest last now mid
       → rest ≡ run ++ behind → AllByRecursion IsLineByte run → length bytes - length behind ≤ most / 8
-      → next ≡ last_of_run last now run → after ≡ mid ++ run_text marking last now run → IsWrittenTo marking pen bytes before behind next now after
+      → next ≡ last_of_run last now run → after ≡ mid ++ run_text marking last now run → IsWrittenTo h marking pen bytes before behind next now after
   run_written rest run behind mid after last now next over (front, text, split, f, out) parts plain few look longer =
       let told = run_text marking last now run in
       let whole : bytes ≡ (front ++ run) ++ behind = split ∙ ap (λ (t : List ℕ). front ++ t) parts ∙ sym (append_assoc front run behind) in (
         front ++ run,
         text ++ told,
         whole,
-        rw look (run_on marking pen front text last now f run over plain (omega (arith, few, ap length whole, length-append (front ++ run) behind))),
+        rw look (run_on h marking pen front text last now ascii f run over plain (omega (arith, few, ap length whole, length-append (front ++ run) behind))),
         longer ∙ ap (λ (t : List ℕ). t ++ told) out ∙ append_assoc before text told,
       )
 
   -- a sequence in front of it, and the text behind that
   pub styled_written : (mid after : List ℕ) (old new : LineFront) → pen.inserts ≡ false → new.least ≡ length bytes - most / 8
-      → IsWritten marking pen bytes before old mid → IsStyled marking old mid new after → IsWritten marking pen bytes before new after
+      → IsWritten h marking pen bytes before old mid → IsStyled h marking old mid new after → IsWritten h marking pen bytes before new after
   styled_written mid after old new over least (front, told, split, f, out) s =
       run_written (s.run ++ new.rest.now) s.run new.rest.now mid after old.last new.now new.last over (
         front ++ s.sequence,
         told,
         split ∙ ap (λ (t : List ℕ). front ++ t) s.parts ∙ sym (append_assoc front s.sequence (s.run ++ new.rest.now)),
-        sets_on marking pen front told old.last old.now f s.sequence new.now s.sets,
+        sets_on h marking pen front told old.last old.now ascii f s.sequence new.now s.sets,
         out,
       ) refl s.plain (omega (arith, least, s.room)) s.looks s.text
 
 -- ---- the end of the line
 
--- where nothing is open, held or written
-abbrev pub ready : Marking → Pen → Line → Now
-ready marking pen l = record { reader = none_held; pen = pen; marking = marking; line = l }
+-- where this is held, and so much is written
+abbrev pub ready : Held → Marking → Pen → Line → Now
+ready o marking pen l = record { reader = o; pen = pen; marking = marking; line = l }
 
--- behind a return or none
-pub end_passes : (marking : Marking) (pen : Pen) (l : Line) (returned : Bool)
-    → Passes (ready marking pen l) (end_of returned) (ended marking (cells_of l)) (ready marking (closed pen) blank)
-end_passes marking pen l false = record {
-  steps = of_chars (end_of false);
-  reads = reads_end false;
-  pen = refl;
-  marking = refl;
-  line = refl;
-  all = sym (append-nil (ended marking (cells_of l)));
-}
-end_passes marking pen l true = record {
-  steps = of_chars (end_of true);
-  reads = reads_end true;
-  pen = refl;
-  marking = refl;
-  line = refl;
-  all = rw (← standing_settled most 0 l) (sym (append-nil (ended marking (cells_of (behind_columns most 0 l)))));
-}
+module _ (o : Held) (bare : IsBare o) where
+  -- behind a return or none
+  pub end_passes : (marking : Marking) (pen : Pen) (l : Line) (returned : Bool)
+      → Passes (ready o marking pen l) (end_of returned) (ended marking (cells_of l)) (ready o marking (closed pen) blank)
+  end_passes marking pen l false = record {
+    steps = of_chars (end_of false);
+    reads = reads_end o false bare;
+    pen = refl;
+    marking = refl;
+    line = refl;
+    all = sym (append-nil (ended marking (cells_of l)));
+  }
+  end_passes marking pen l true = record {
+    steps = of_chars (end_of true);
+    reads = reads_end o true bare;
+    pen = refl;
+    marking = refl;
+    line = refl;
+    all = rw (← standing_settled most 0 l) (sym (append-nil (ended marking (cells_of (behind_columns most 0 l)))));
+  }
 
-pub line_passes : (marking : Marking) (pen : Pen) (bytes text : List ℕ) (last now : Look) (returned : Bool) → IsFront marking pen bytes text last now
-    → Passes (ready marking pen blank) (bytes ++ end_of returned) (text ++ (turn marking last plain ++ 10 ∷ [])) (ready marking (closed
-    (record pen { look = now })) blank)
-line_passes marking pen bytes text last now returned f =
-    let then = pen_behind_all most pen f.steps blank in
-    let mid = ready marking then (line f.cells []) in
-    let new = ready marking (closed (record pen { look = now })) blank in
-    let front : Passes (ready marking pen blank) bytes [] mid = record {
-      steps = f.steps;
-      reads = f.reads;
-      pen = refl;
-      marking = refl;
-      line = sym f.line;
-      all = ap (texts_of marking) (sym f.lines);
-    } in
-    let whole : ended marking (cells_of (line f.cells [])) ≡ text ++ (turn marking last plain ++ 10 ∷ []) =
-    rw (full_trimmed f.cells f.full, f.looks, f.drawn, all_drawn marking f.cells) (append_assoc (drawn marking f.cells) (turn marking
-    (last_look f.cells) plain) (10 ∷ [])) in
-    rw (← whole) (passes_on (ready marking pen blank) mid new bytes (end_of returned) [] (ended marking (cells_of (line f.cells []))) front
-    (rw (← f.pens) (end_passes marking then (line f.cells []) returned)))
+  pub line_passes : (marking : Marking) (pen : Pen) (bytes text : List ℕ) (last now : Look) (returned : Bool) → IsFront o marking pen bytes text last now
+      → Passes (ready o marking pen blank) (bytes ++ end_of returned) (text ++ (turn marking last plain ++ 10 ∷ [])) (ready o marking (closed
+      (record pen { look = now })) blank)
+  line_passes marking pen bytes text last now returned f =
+      let then = pen_behind_all most pen f.steps blank in
+      let mid = ready o marking then (line f.cells []) in
+      let new = ready o marking (closed (record pen { look = now })) blank in
+      let front : Passes (ready o marking pen blank) bytes [] mid = record {
+        steps = f.steps;
+        reads = f.reads;
+        pen = refl;
+        marking = refl;
+        line = sym f.line;
+        all = ap (texts_of marking) (sym f.lines);
+      } in
+      let whole : ended marking (cells_of (line f.cells [])) ≡ text ++ (turn marking last plain ++ 10 ∷ []) =
+      rw (full_trimmed f.cells f.full, f.looks, f.drawn, all_drawn marking f.cells) (append_assoc (drawn marking f.cells) (turn marking
+      (last_look f.cells) plain) (10 ∷ [])) in
+      rw (← whole) (passes_on (ready o marking pen blank) mid new bytes (end_of returned) [] (ended marking (cells_of (line f.cells []))) front
+      (rw (← f.pens) (end_passes marking then (line f.cells []) returned)))
 
--- ---- lines of text alone
+  -- ---- lines of text alone
 
-plain_same : (m : Marking) (look : Look) (run : List ℕ) → look ≡ plain
-    → run_text m plain look run ++ (turn m (last_of_run plain look run) plain ++ 10 ∷ []) ≡ written m (run ++ 10 ∷ [])
-plain_same m look run e = rw (written_on m run (10 ∷ []), (blank_written m).0, e, run_same m plain run, run_look plain run, turn_same m plain) refl
+  plain_same : (m : Marking) (look : Look) (run : List ℕ) → look ≡ plain
+      → run_text m plain look run ++ (turn m (last_of_run plain look run) plain ++ 10 ∷ []) ≡ written m (run ++ 10 ∷ [])
+  plain_same m look run e = rw (written_on m run (10 ∷ []), (blank_written m).0, e, run_same m plain run, run_look plain run, turn_same m plain) refl
 
-plain_text : (m : Marking) (look : Look) (run : List ℕ) → (shows_looks m ≡ true → look ≡ plain)
-    → run_text m plain look run ++ (turn m (last_of_run plain look run) plain ++ 10 ∷ []) ≡ written m (run ++ 10 ∷ [])
-plain_text Plain look run h = rw (written_on Plain run (10 ∷ []), (blank_written Plain).0) refl
-plain_text Styled look run h = plain_same Styled look run (h refl)
-plain_text (Page n) look run h = plain_same (Page n) look run (h refl)
+  plain_text : (m : Marking) (look : Look) (run : List ℕ) → (shows_looks m ≡ true → look ≡ plain)
+      → run_text m plain look run ++ (turn m (last_of_run plain look run) plain ++ 10 ∷ []) ≡ written m (run ++ 10 ∷ [])
+  plain_text Plain look run h = rw (written_on Plain run (10 ∷ []), (blank_written Plain).0) refl
+  plain_text Styled look run h = plain_same Styled look run (h refl)
+  plain_text (Page n) look run h = plain_same (Page n) look run (h refl)
 
-abbrev pub Stand : Marking → Pen → List ℕ → Type 0
-Stand marking pen text = Passes (ready marking pen blank) text (written marking text) (ready marking (closed pen) blank)
+  abbrev pub Stand : Marking → Pen → List ℕ → Type 0
+  Stand marking pen text = Passes (ready o marking pen blank) text (written marking text) (ready o marking (closed pen) blank)
 
-stands : (marking : Marking) (pen : Pen) (run : List ℕ) → PutsPlain (shows_looks marking) pen → AllByRecursion IsLineByte run → 8 * length run ≤ most
-    → Stand marking pen (run ++ 10 ∷ [])
-stands marking pen run (over, look) h few =
-    subst (λ (t : List ℕ). Passes (ready marking pen blank) (run ++ 10 ∷ []) t (ready marking (closed pen) blank)) (plain_text marking pen.look run look)
-    (line_passes marking pen run (run_text marking plain pen.look run) (last_of_run plain pen.look run) pen.look
-    false (run_on marking pen [] [] plain pen.look (front_none marking pen) run over h few))
+  module _ (is : in_use o.reading.sets ≡ Ascii) where
+    abbrev ascii : IsAscii o
+    ascii = (bare, is)
 
-stand : (marking : Marking) (pen : Pen) (run front : List ℕ) → PutsPlain (shows_looks marking) pen → AllByRecursion IsLineByte run → AllByRecursion IsPlainByte front
-    → 8 * length (run ++ front) ≤ most → Stand marking pen (run ++ (front ++ 10 ∷ []))
-stand marking pen run [] puts h plains few = stands marking pen run puts h (omega (arith, few, length-append run []))
-stand marking pen run (c ∷ cs) puts h plains few =
-    by (c == 10) refl (stand marking (closed pen) [] cs puts tt plains.1 (omega (arith, few, length-append run (c ∷ cs))))
-    (λ (k : IsLineByte c). stand marking pen (run ++ c ∷ []) cs puts (All-push IsLineByte run c h k) plains.1
-    (omega (arith, few, length-append run (c ∷ cs), length-append (run ++ c ∷ []) cs, length-append run (c ∷ []))))
-  where
-    by : (t : Bool) → (c == 10) ≡ t → Stand marking (closed pen) (cs ++ 10 ∷ []) → (IsLineByte c → Stand marking pen ((run ++ c ∷ []) ++ (cs ++ 10 ∷ [])))
-        → Stand marking pen (run ++ (c ∷ cs ++ 10 ∷ []))
-    by true e later same =
-        let line = run ++ 10 ∷ [] in
-        let rest = cs ++ 10 ∷ [] in
-        let now = ready marking (closed pen) blank in
-        rw (eqb-true c 10 e, ← append_assoc run (10 ∷ []) rest, written_on marking line rest)
-        (passes_on (ready marking pen blank) now now line rest (written marking line) (written marking rest)
-        (stands marking pen run puts h (omega (arith, few, length-append run (c ∷ cs)))) later)
-    by false e later same = subst (Stand marking pen) (append_assoc run (c ∷ []) (cs ++ 10 ∷ [])) (same (rw e at plains.0))
+    stands : (marking : Marking) (pen : Pen) (run : List ℕ) → PutsPlain (shows_looks marking) pen → AllByRecursion IsLineByte run → 8 * length run ≤ most
+        → Stand marking pen (run ++ 10 ∷ [])
+    stands marking pen run (over, look) h few =
+        subst (λ (t : List ℕ). Passes (ready o marking pen blank) (run ++ 10 ∷ []) t (ready o marking (closed pen) blank)) (plain_text marking pen.look run look)
+        (line_passes marking pen run (run_text marking plain pen.look run) (last_of_run plain pen.look run) pen.look
+        false (run_on o marking pen [] [] plain pen.look ascii (front_none o marking pen bare) run over h few))
 
-pub lines_pass : (marking : Marking) (pen : Pen) (bytes lines rest : List ℕ) → PutsPlain (shows_looks marking) pen → AreLines (most / 8) bytes lines rest
-    → Stand marking pen lines
-lines_pass marking pen bytes lines rest puts (front, ends, split, plains, few) =
-    rw ends (stand marking pen [] front puts tt plains (omega (arith, few, ap length ends, length-append front (10 ∷ []))))
+    stand : (marking : Marking) (pen : Pen) (run front : List ℕ) → PutsPlain (shows_looks marking) pen → AllByRecursion IsLineByte run → AllByRecursion IsPlainByte front
+        → 8 * length (run ++ front) ≤ most → Stand marking pen (run ++ (front ++ 10 ∷ []))
+    stand marking pen run [] puts h plains few = stands marking pen run puts h (omega (arith, few, length-append run []))
+    stand marking pen run (c ∷ cs) puts h plains few =
+        by (c == 10) refl (stand marking (closed pen) [] cs puts tt plains.1 (omega (arith, few, length-append run (c ∷ cs))))
+        (λ (k : IsLineByte c). stand marking pen (run ++ c ∷ []) cs puts (All-push IsLineByte run c h k) plains.1
+        (omega (arith, few, length-append run (c ∷ cs), length-append (run ++ c ∷ []) cs, length-append run (c ∷ []))))
+      where
+        by : (t : Bool) → (c == 10) ≡ t → Stand marking (closed pen) (cs ++ 10 ∷ []) → (IsLineByte c → Stand marking pen ((run ++ c ∷ []) ++ (cs ++ 10 ∷ [])))
+            → Stand marking pen (run ++ (c ∷ cs ++ 10 ∷ []))
+        by true e later same =
+            let line = run ++ 10 ∷ [] in
+            let rest = cs ++ 10 ∷ [] in
+            let now = ready o marking (closed pen) blank in
+            rw (eqb-true c 10 e, ← append_assoc run (10 ∷ []) rest, written_on marking line rest)
+            (passes_on (ready o marking pen blank) now now line rest (written marking line) (written marking rest)
+            (stands marking pen run puts h (omega (arith, few, length-append run (c ∷ cs)))) later)
+        by false e later same = subst (Stand marking pen) (append_assoc run (c ∷ []) (cs ++ 10 ∷ [])) (same (rw e at plains.0))
+
+    pub lines_pass : (marking : Marking) (pen : Pen) (bytes lines rest : List ℕ) → PutsPlain (shows_looks marking) pen → AreLines (most / 8) bytes lines rest
+        → Stand marking pen lines
+    lines_pass marking pen bytes lines rest puts (front, ends, split, plains, few) =
+        rw ends (stand marking pen [] front puts tt plains (omega (arith, few, ap length ends, length-append front (10 ∷ []))))

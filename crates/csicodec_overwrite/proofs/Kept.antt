@@ -1,5 +1,5 @@
 -- What holds of all characters that steps put, and of blanks, tabs and newlines, holds of all that they write; and so it is with looks.
-use Rattle.csicodec_overwrite.proofs.Common.{ℕ, ◌-◌, zero, suc, Bool, true, false, cond, min, List, [], ◌∷◌, ◌++◌, length, replicate, ◌==◌, nat_lt, Option, Some, None, flat_map, ◌≡◌, refl, ◌∙◌, rules, and_from, and_parts, AllByRecursion, Sgr, Look, behind, plain, Cell, Glyph, Line, Step, Behind, Char, Empty, Mark, Pen, cond_both, all_scalars, lossy_chars, SgrInRange, Kind, Part, IsPlain, IsShown, with_titles, all_weaker, begins_behind, belongs, chars_of, columns, emptied, erased, glyph, gone, is_empty, of_tab, onto, outside, shifted, takes, to_tab_stop, trimmed, untabbed, width, without, Done, behind_columns, blank, cells_of, do_all, does, does_here, done, entered, fits, forward, fresh, from_stop, in_row, is_row, leave, leaves_long, line, lines_of, over, parted, pen_behind, placed, put, repeat, repeated, shows_nothing, size, target, to_stop, widest, by_code, of_action, of_actions, of_char, of_chars, of_code, of_control, of_cursor, of_device, of_edit, of_escape, of_final, of_mode, of_run, of_terminal, by_escape, of_sequence, of_string, of_wrong, switched, IsInRange, AreOfParts, IsOfPart, Overwrites, Steps, most, Action, scalars_lossy}
+use Rattle.csicodec_overwrite.proofs.Common.{ℕ, ◌-◌, zero, suc, Bool, true, false, cond, min, List, [], ◌∷◌, ◌++◌, length, replicate, ◌==◌, nat_lt, Option, Some, None, flat_map, ◌≡◌, refl, ◌∙◌, rules, and_from, and_parts, AllByRecursion, Sgr, Look, behind, plain, Cell, Glyph, Line, Step, Behind, Char, Empty, Mark, Pen, cond_both, all_scalars, lossy_chars, SgrInRange, Kind, Part, IsPlain, IsShown, as_read, first_reading, all_weaker, begins_behind, belongs, chars_of, columns, emptied, erased, glyph, gone, is_empty, of_tab, onto, outside, shifted, takes, to_tab_stop, trimmed, untabbed, width, without, Done, behind_columns, blank, cells_of, do_all, does, does_here, done, entered, fits, forward, fresh, from_stop, in_row, is_row, leave, leaves_long, line, lines_of, over, parted, pen_behind, placed, put, repeat, repeated, shows_nothing, size, target, to_stop, widest, by_code, of_action, of_actions, of_char, of_chars, of_code, of_control, of_cursor, of_device, of_edit, of_escape, of_final, of_mode, of_run, of_terminal, by_escape, of_sequence, of_string, of_wrong, switched, IsInRange, AreOfParts, IsOfPart, Overwrites, Steps, most, Action, scalars_lossy}
 use Rattle.csicodec_looks.proofs.Texts.{cells_by, line_cells, newline, chars_by, shown_plain}
 use Rattle.csicodec_actions.proofs.AllRows.{all-append}
 use lib.Utf8.{scalar}
@@ -332,7 +332,7 @@ parts_good run [] steps left h = rw h.0 tt
 parts_good run (p ∷ ps) steps left (first, next, others, is, e, rest) = rw e (both first others (part_steps p.kind run p.bytes next first is) (parts_good next ps others left rest))
 
 pub steps_good : (bytes : List ℕ) (steps : List Step) → Steps bytes steps → AreGood steps
-steps_good bytes steps s = rw s.all (both s.before (of_run s.run) (parts_good [] (with_titles false s.parts) s.before s.run s.read) (run_good s.run))
+steps_good bytes steps s = rw s.all (both s.before (of_run s.run) (parts_good [] (as_read first_reading s.parts) s.before s.run s.read) (run_good s.run))
 
 -- ---- nor another look
 

@@ -8,3 +8,5 @@ pub mod Lost
 pub mod Stays
 pub mod Fronts
 pub mod Alike
+pub mod Drawn
+pub mod Equal

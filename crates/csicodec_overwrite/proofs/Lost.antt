@@ -1,5 +1,5 @@
 -- Each character that comes stands in a line, or was taken out of its own: counted step by step.
-use Rattle.csicodec_overwrite.proofs.Common.{◌≡◌, ◌≢◌, ◌≤◌, ℕ, ◌+◌, ◌-◌, zero, suc, Bool, true, false, cond, min, List, [], ◌∷◌, ◌++◌, length, replicate, refl, ap, ◌∙◌, arith, ◌==◌, Option, Some, None, flat_map, encode_utf8_all, sym, append_assoc, append-nil, filter, sum_by-append, nil_from_length, eqb-true, nat_tests, Cell, Glyph, Line, Step, Behind, Char, Empty, Mark, Pen, flat_map-append, all_scalars, lossy_chars, lossy_chars-encode, Kind, Part, longest, shown, title_open, with_titles, encoded_on, titles_on, Plain, chars_of, columns, emptied, erased, glyph, gone, onto, outside, shifted, takes, to_tab_stop, trimmed, width, without, Done, behind_columns, blank, cells_of, do_all, does, does_here, done, entered, fits, forward, from_stop, in_row, leaves_long, line, lines_of, over, parted, pen_behind, placed, put, repeat, repeated, size, standing, target, to_stop, widest, fresh, again, all_came, all_taken, belonging, came, covered, left_out, taken, taken_again, taken_here, taken_by, taken_by_all, tabs, times, touched, under, whole, within, NothingLost, NothingMade, of_char, of_chars, of_run, of_sequence, as_text, AreOfParts, IsOfPart, Shows, Steps, most, shown_by, lossy_chars-nil, Strips, stripped, shown_text, scalars_lossy, scalars_on}
+use Rattle.csicodec_overwrite.proofs.Common.{◌≡◌, ◌≢◌, ◌≤◌, ℕ, ◌+◌, ◌-◌, zero, suc, Bool, true, false, cond, min, List, [], ◌∷◌, ◌++◌, length, replicate, refl, ap, ◌∙◌, arith, ◌==◌, Option, Some, None, flat_map, encode_utf8_all, sym, append_assoc, append-nil, filter, sum_by-append, nil_from_length, eqb-true, nat_tests, Cell, Glyph, Line, Step, Behind, Char, Empty, Mark, Pen, flat_map-append, all_scalars, lossy_chars, lossy_chars-encode, Kind, Part, longest, shown, as_read, as_read_on, first_reading, read_behind, Reading, encoded_on, Plain, chars_of, columns, emptied, erased, glyph, gone, onto, outside, shifted, takes, to_tab_stop, trimmed, width, without, Done, behind_columns, blank, cells_of, do_all, does, does_here, done, entered, fits, forward, from_stop, in_row, leaves_long, line, lines_of, over, parted, pen_behind, placed, put, repeat, repeated, size, standing, target, to_stop, widest, fresh, again, all_came, all_taken, belonging, came, covered, left_out, taken, taken_again, taken_here, taken_by, taken_by_all, tabs, times, touched, under, whole, within, NothingLost, NothingMade, of_char, of_chars, of_run, of_sequence, as_text, AreOfParts, IsOfPart, Shows, Steps, most, shown_by, lossy_chars-nil, Strips, stripped, shown_text, scalars_lossy, scalars_on}
 use Rattle.csicodec_overwrite.proofs.{Kept.overwritten_plain, Kept.scalars, Kept.shown_good, Same.same_text}
 use Rattle.csicodec_looks.proofs.Texts.{cells_by, chars_by, line_cells, shown_plain}
 use Rattle.csicodec_overwrite.specs.Lost.{written}
@@ -324,24 +324,24 @@ module _ (c : ℕ) where
     parts_put (p ∷ ps) run steps left (first, next, later, is, e, rest) = one_part ps run next left first later steps e (parts_put ps next later left rest) p.kind p.bytes is
 
     -- what isn't over at the end shows nothing
-    none_over : (t : Bool) (run bytes : List ℕ) → stripped run (with_titles t (left_over bytes)) ≡ shown_text run
-    none_over t run [] = refl
-    none_over t run (b ∷ bytes) = ap (λ (cs : List ℕ). shown_text run ++ shown_chars cs) lossy_chars-nil ∙ append-nil (shown_text run)
+    none_over : (r : Reading) (run bytes : List ℕ) → stripped run (as_read r (left_over bytes)) ≡ shown_text run
+    none_over r run [] = refl
+    none_over r run (b ∷ bytes) = ap (λ (cs : List ℕ). shown_text run ++ shown_chars cs) lossy_chars-nil ∙ append-nil (shown_text run)
 
     pub kept_put : (bytes kept : List ℕ) (steps : List Step) → Steps bytes steps → Strips longest bytes kept → times c (lossy_chars kept) ≤ times c (puts steps)
     kept_put bytes kept steps s k =
         let parts = s.parts ++ left_over s.rest in
-        let t = title_open false s.parts in
+        let r = read_behind first_reading s.parts in
         let last = filter shown (lossy_chars s.run) in
-        let (chars, scalars, same, put) = parts_put (with_titles false s.parts) [] s.before s.run s.read in
-        let own : Strips longest bytes (stripped [] (with_titles false parts)) = record {
+        let (chars, scalars, same, put) = parts_put (as_read first_reading s.parts) [] s.before s.run s.read in
+        let own : Strips longest bytes (stripped [] (as_read first_reading parts)) = record {
           parts = parts;
           whole = record { sure = s.parts; rest = s.rest; after = s.after; first = s.first; unsure = s.unsure; whole = refl };
           left = refl;
         } in
         let text : kept ≡ encode_utf8_all (chars ++ last) =
-        one_text longest bytes kept (stripped [] (with_titles false parts)) k own ∙ ap (stripped []) (titles_on false s.parts (left_over s.rest)) ∙ same (with_titles t (left_over s.rest))
-        ∙ ap (λ (x : List ℕ). encode_utf8_all chars ++ x) (none_over t s.run s.rest) ∙ sym (encoded_on chars last) in
+        one_text longest bytes kept (stripped [] (as_read first_reading parts)) k own ∙ ap (stripped []) (as_read_on first_reading s.parts (left_over s.rest)) ∙ same (as_read r (left_over s.rest))
+        ∙ ap (λ (x : List ℕ). encode_utf8_all chars ++ x) (none_over r s.run s.rest) ∙ sym (encoded_on chars last) in
         let read : lossy_chars kept ≡ chars ++ last =
         ap lossy_chars text ∙ lossy_chars-encode (chars ++ last) (scalars_on chars last scalars (kept_shown (lossy_chars s.run) (scalars_lossy s.run)).0) in
         omega (arith, ap (times c) read, both c chars last, put, chars_put (lossy_chars s.run), puts_on s.before (of_run s.run), ap (λ (x : List Step). times c (puts x)) s.all)

@@ -1,9 +1,9 @@
 -- The steps of characters, of actions and of what else comes, one behind the other.
-use Rattle.csicodec_overwrite.proofs.Common.{◌≡◌, ℕ, List, [], ◌∷◌, ◌++◌, length, ap, ◌∙◌, append_assoc, append-nil, flat_map, Bool, refl, sym, subst, arith, None, nil_from_length, flat_map-append, lossy_chars, IsRead, Step, AllByRecursion, Kind, Part, parts_more, none_unsure, longest, title_open, with_titles, titles_on, lossy_chars-nil, read_more, read_none, of_char, of_chars, of_run, by_escape, of_escape, of_sequence, of_string, of_wrong, Goes, Held, Reads, none_held, AreOfParts, IsOfPart, Steps, GoesTo, IsGiven, part, AreFirstParts, parts_on}
+use Rattle.csicodec_overwrite.proofs.Common.{◌≡◌, ℕ, List, [], ◌∷◌, ◌++◌, length, ap, ◌∙◌, append_assoc, append-nil, flat_map, Bool, refl, sym, subst, arith, None, nil_from_length, flat_map-append, lossy_chars, IsRead, Step, AllByRecursion, Kind, Part, parts_more, none_unsure, longest, as_read, as_read_on, read_behind, read_on, passed, span_read, Reading, Sets, drawn_text, IsBare, none_in, lossy_chars-nil, read_more, read_none, of_char, of_chars, of_run, by_escape, of_escape, of_sequence, of_string, of_wrong, Goes, Held, Reads, none_held, AreOfParts, IsOfPart, Steps, GoesTo, IsGiven, part, AreFirstParts, parts_on}
 use Rattle.bstr.specs.Utf8.{replacement}
-use Rattle.csicodec_clean.proofs.{Plain.read_all, Titles.open_on, Titles.titled}
+use Rattle.csicodec_clean.proofs.Plain.{read_all}
+use Rattle.csicodec_clean.specs.{Sets.drawn, Titles.read_as}
 use Rattle.csicodec_spans.specs.{declared.table.Mode.Mode, Parts.bytes_of, Parts.AreAll, Parts.IsSpan, Parts.Cuts, Parts.IsUnsure}
-use Rattle.csicodec_clean.specs.Titles.{title_behind, read_as}
 
 pub chars_on : (xs ys : List ℕ) → of_chars (xs ++ ys) ≡ of_chars xs ++ of_chars ys
 chars_on xs ys = flat_map-append of_char xs ys
@@ -92,85 +92,91 @@ ended run chars held ps own more left read e none are = record {
   same = rw (e, run_read run chars held read) (simp (append_assoc, append-nil));
 }
 
-spanned : (k : Kind) (run chars held bytes : List ℕ) (more : List Step) (ps : List Part) (left : List ℕ) → IsSpan k bytes ps → IsRead run chars held
-    → IsGiven k held bytes more left → Spanned run chars ps more left
-spanned Kind.Text run chars held bytes more ps left span read (now, later, e) = record {
+spanned : (s : Sets) (k : Kind) (run chars held bytes : List ℕ) (more : List Step) (ps : List Part) (left : List ℕ) → IsSpan k (drawn s k bytes) ps → IsRead run chars held
+    → IsGiven s k held bytes more left → Spanned run chars ps more left
+spanned s Kind.Text run chars held bytes more ps left span read (now, (later, front, split), e) = record {
   before = [];
-  left = run ++ bytes;
+  left = run ++ drawn_text s bytes;
   read = chars ++ now;
   are = subst (λ (x : List ℕ). AreOfParts run ps [] (run ++ x)) span.joined (texts ps run span.all);
-  is_read = read_more run held bytes left chars now read later;
+  is_read = read_more run held (drawn_text s bytes) left chars now read later;
   same = ap (λ (t : List Step). of_chars chars ++ t) e ∙ sym (chars_on chars now);
 }
-spanned Kind.Csi run chars held bytes more ps left span read (actions, of, e, none) =
+spanned s Kind.Csi run chars held bytes more ps left span read (actions, of, e, none) =
     ended run chars held ps (of_sequence actions) more left read e none (only Kind.Csi bytes (of_run run ++ of_sequence actions) ps run span (actions, of, refl, refl))
-spanned Kind.Esc run chars held bytes more ps left span read h =
+spanned s Kind.Esc run chars held bytes more ps left span read h =
     ended run chars held ps (of_escape bytes) more left read h.0 h.1 (only Kind.Esc bytes (of_run run ++ of_escape bytes) ps run span (refl, refl))
-spanned Kind.Str run chars held bytes more ps left span read h =
+spanned s Kind.Str run chars held bytes more ps left span read h =
     ended run chars held ps (of_string bytes) more left read h.0 h.1 (by_bytes Kind.Str (by_escape Step.Other) (λ r b. (refl, refl)) bytes ps run span)
-spanned Kind.Other run chars held bytes more ps left span read h =
+spanned s Kind.Other run chars held bytes more ps left span read h =
     ended run chars held ps (of_wrong bytes) more left read h.0 h.1 (by_bytes Kind.Other (by_escape (Step.Leave None)) (λ r b. (refl, refl)) bytes ps run span)
 
 -- ---- one behind the other
 
 -- nothing yet
-pub goes_none : (m : Mode) (t : Bool) (run chars bytes held : List ℕ) → IsRead run chars held → Goes m t run chars bytes [] bytes m t held
-goes_none m t run chars bytes held read =
-    record { parts = []; before = []; left = run; read = chars; first = (refl, refl); titles = refl; are = (refl, refl); is_read = read; same = append-nil (of_chars chars) }
+pub goes_none : (m : Mode) (r : Reading) (run chars bytes held : List ℕ) → IsRead run chars held → Goes m r run chars bytes [] bytes m r held
+goes_none m r run chars bytes held read =
+    record { parts = []; before = []; left = run; read = chars; first = (refl, refl); reading = refl; are = (refl, refl); is_read = read; same = append-nil (of_chars chars) }
 
 -- and then more, of these bytes or with others behind
-goes_then : (m n a : Mode) (t u v : Bool) (run chars bytes behind whole next held rest last : List ℕ) (one two : List Step)
+goes_then : (m n a : Mode) (t u v : Reading) (run chars bytes behind whole next held rest last : List ℕ) (one two : List Step)
     → (g : Goes m t run chars bytes one behind n u held)
     → (k : Goes n u g.left g.read next two rest a v last) → AreFirstParts longest m whole (g.parts ++ k.parts) rest a
     → Goes m t run chars whole (one ++ two) rest a v last
 goes_then m n a t u v run chars bytes behind whole next held rest last one two g k first =
-    let all : with_titles t (g.parts ++ k.parts) ≡ with_titles t g.parts ++ with_titles u k.parts =
-    titles_on t g.parts k.parts ∙ ap (λ (b : Bool). with_titles t g.parts ++ with_titles b k.parts) (sym g.titles) in
+    let all : as_read t (g.parts ++ k.parts) ≡ as_read t g.parts ++ as_read u k.parts =
+    as_read_on t g.parts k.parts ∙ ap (λ (r : Reading). as_read t g.parts ++ as_read r k.parts) (sym g.reading) in
     record {
       parts = g.parts ++ k.parts;
       before = g.before ++ k.before;
       left = k.left;
       read = k.read;
       first = first;
-      titles = k.titles ∙ ap (λ (b : Bool). title_open b k.parts) g.titles ∙ sym (open_on t g.parts k.parts);
+      reading = k.reading ∙ ap (λ (r : Reading). read_behind r k.parts) g.reading ∙ sym (read_on t g.parts k.parts);
       are = subst (λ (ps : List Part). AreOfParts run ps (g.before ++ k.before) k.left) (sym all)
-          (parts_then (with_titles t g.parts) (with_titles u k.parts) run g.left k.left g.before k.before g.are k.are);
+          (parts_then (as_read t g.parts) (as_read u k.parts) run g.left k.left g.before k.before g.are k.are);
       is_read = k.is_read;
       same = sym (append_assoc (of_chars chars) one two) ∙ ap (λ (x : List Step). x ++ two) g.same ∙ append_assoc g.before (of_chars g.read) two
           ∙ ap (λ (x : List Step). g.before ++ x) k.same ∙ sym (append_assoc g.before k.before (of_chars k.read));
     }
 
 -- a span
-pub goes_span : (m a : Mode) (t : Bool) (k : Kind) (run chars bytes held span rest left : List ℕ) (more : List Step) → IsRead run chars held → Cuts longest m bytes k span rest a
-    → IsGiven (read_as k t) held span more left → Goes m t run chars bytes more rest a (title_behind t k span) left
-goes_span m a t k run chars bytes held span rest left more read cut h =
-    let now = titled t k span cut.parts cut.span in
-    let x = spanned (read_as k t) run chars held span more (with_titles t cut.parts) left now.span read h in
-    record { parts = cut.parts; before = x.before; left = x.left; read = x.read; first = cut.first; titles = sym now.behind; are = x.are; is_read = x.is_read; same = x.same }
+pub goes_span : (m a : Mode) (r : Reading) (k : Kind) (run chars bytes held span rest left : List ℕ) (more : List Step) → IsRead run chars held → Cuts longest m bytes k span rest a
+    → IsGiven r.sets (read_as k r.titled) held span more left → Goes m r run chars bytes more rest a (passed r k span) left
+goes_span m a r k run chars bytes held span rest left more read cut h =
+    let now = span_read r k span cut.parts cut.span in
+    let x = spanned r.sets (read_as k r.titled) run chars held span more (as_read r cut.parts) left now.span read h in
+    record { parts = cut.parts; before = x.before; left = x.left; read = x.read; first = cut.first; reading = sym now.behind; are = x.are; is_read = x.is_read; same = x.same }
 
 -- what came for some bytes, and then for more
-pub to_none : (m : Mode) (t : Bool) (held bytes : List ℕ) (old : List Step) → GoesTo m t held bytes bytes m t held old old
+pub to_none : (m : Mode) (t : Reading) (held bytes : List ℕ) (old : List Step) → GoesTo m t held bytes bytes m t held old old
 to_none m t held bytes old = ([], sym (append-nil old), λ run chars read. goes_none m t run chars bytes held read)
 
-pub to_span : (m n a : Mode) (t u : Bool) (k : Kind) (held between left bytes behind span rest : List ℕ) (old now new more : List Step) → GoesTo m t held bytes behind n u between old now
-    → Cuts longest n behind k span rest a → IsGiven (read_as k u) between span more left → new ≡ now ++ more → GoesTo m t held bytes rest a (title_behind u k span) left old new
+pub to_span : (m n a : Mode) (t u : Reading) (k : Kind) (held between left bytes behind span rest : List ℕ) (old now new more : List Step) → GoesTo m t held bytes behind n u between old now
+    → Cuts longest n behind k span rest a → IsGiven u.sets (read_as k u.titled) between span more left → new ≡ now ++ more → GoesTo m t held bytes rest a (passed u k span) left old new
 to_span m n a t u k held between left bytes behind span rest old now new more (steps, out, goes) cut given longer = (
   steps ++ more,
   longer ∙ ap (λ (x : List Step). x ++ more) out ∙ append_assoc old steps more,
   λ run chars read.
       let g = goes run chars read in
       let s = goes_span n a u k g.left g.read behind between span rest left more g.is_read cut given in
-      goes_then m n a t u (title_behind u k span) run chars bytes behind bytes behind between rest left steps more g s
+      goes_then m n a t u (passed u k span) run chars bytes behind bytes behind between rest left steps more g s
       (parts_on longest g.parts s.parts m bytes behind rest n a g.first s.first),
 )
 
 -- nothing is sure yet
 pub reads_nothing : (old : Held) (bytes : List ℕ) → IsUnsure longest old.mode (old.bytes ++ bytes) → Reads old bytes [] (record old { bytes = old.bytes ++ bytes })
-reads_nothing old bytes o = record { unsure = o; goes = λ run chars h. goes_none old.mode old.titled run chars (old.bytes ++ bytes) old.held h }
+reads_nothing old bytes o = record { unsure = o; goes = λ run chars h. goes_none old.mode old.reading run chars (old.bytes ++ bytes) old.held h }
 
 -- nothing came yet
-pub reads_none : Reads none_held [] [] none_held
-reads_none = reads_nothing none_held [] (none_unsure longest Mode.Text)
+pub bare_first : IsBare none_held
+bare_first = refl
+
+pub none_read : (s : Sets) → Reads (none_in s) [] [] (none_in s)
+none_read s = reads_nothing (none_in s) [] (none_unsure longest Mode.Text)
+
+pub reads_none : (h : Held) → IsBare h → Reads h [] [] h
+reads_none h bare = subst (λ (x : Held). Reads x [] [] x) (sym bare) (none_read h.reading.sets)
 
 -- a chunk more
 pub reads_on : (old mid new : Held) (first second : List ℕ) (one two : List Step) → Reads old first one mid → Reads mid second two new → Reads old (first ++ second) (one ++ two) new
@@ -179,7 +185,7 @@ reads_on old mid new first second one two h k = record {
   goes = λ run chars read.
       let g = h.goes run chars read in
       let n = k.goes g.left g.read g.is_read in
-      goes_then old.mode mid.mode new.mode old.titled mid.titled new.titled run chars (old.bytes ++ first) mid.bytes (old.bytes ++ (first ++ second))
+      goes_then old.mode mid.mode new.mode old.reading mid.reading new.reading run chars (old.bytes ++ first) mid.bytes (old.bytes ++ (first ++ second))
       (mid.bytes ++ second)
       mid.held new.bytes new.held one two g n
       (subst (λ (bs : List ℕ). AreFirstParts longest old.mode bs (g.parts ++ n.parts) new.bytes new.mode) (append_assoc old.bytes first second)
@@ -189,7 +195,7 @@ reads_on old mid new first second one two h k = record {
 
 -- the bytes of a push behind those that were held
 pub reads_from : (old new : Held) (bytes all rest : List ℕ) (before after : List Step) → all ≡ old.bytes ++ bytes → new.bytes ≡ rest → IsUnsure longest new.mode rest
-    → GoesTo old.mode old.titled old.held all rest new.mode new.titled new.held before after → (more : List Step) × Reads old bytes more new × (after ≡ before ++ more)
+    → GoesTo old.mode old.reading old.held all rest new.mode new.reading new.held before after → (more : List Step) × Reads old bytes more new × (after ≡ before ++ more)
 reads_from old new bytes all rest before after e f unsure (steps, out, goes) = (
   steps,
   record { unsure = rw f unsure; goes = λ run chars read. rw (← e, f) (goes run chars read) },

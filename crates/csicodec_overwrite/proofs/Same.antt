@@ -8,8 +8,8 @@ use lib.Utf8.{scalar}
 use Rattle.csicodec_spans.specs.{Table.Answer, Parts.Allows, Parts.IsFirstPart, Parts.IsWhole, declared.table.Kind.Kind, declared.table.Mode.Mode}
 use Rattle.csicodec_spans.proofs.Agrees.{opens}
 use Rattle.csicodec_clean.specs.{Links.start, Saving.looks, declared.saving.Looks.Looks, Page.AreLeft, Page.PageWith, Page.Setting, Page.setting}
-use Rattle.csicodec_clean.specs.{Page.shown_pieces}
-use Rattle.csicodec_clean.proofs.{Told.all_kept, Plain.one_char}
+use Rattle.csicodec_clean.specs.{Page.shown_pieces, Sets.as_read, Sets.first_reading, Sets.first_sets, Sets.with_sets}
+use Rattle.csicodec_clean.proofs.{Drawn.drawn_singles, Drawn.first_stays, Told.all_kept, Plain.one_char, Plain.still_char}
 use Rattle.csicodec_looks.specs.{Paint.look_text, Pieces.Piece as Mark, Pieces.piece_text as mark_text, declared.markup.Markup.Markup}
 use Rattle.csicodec_base.specs.declared.sgr.Sgr.{Sgr}
 use Rattle.csicodec_actions.specs.Actions as action
@@ -87,6 +87,15 @@ untitled (One c ∷ ps) =
     let front = singles Kind.Text (encode_utf8 c) in
     rw (titles_on false front (parts_of ps), not_titled (encode_utf8 c), single_texts (encode_utf8 c), untitled ps)
 untitled (Turn l ∷ ps) = ap (λ (x : List Part). part Kind.Csi (look_text l) ∷ x) (untitled ps)
+
+-- nor do the sets change
+undrawn : (ps : List Piece) → AreSafe ps → with_sets first_sets (parts_of ps) ≡ parts_of ps
+undrawn [] h = refl
+undrawn (One c ∷ ps) h = rw (drawn_singles (encode_utf8 c) (parts_of ps) (still_char c h.0.0), undrawn ps h.1) refl
+undrawn (Turn l ∷ ps) h = rw (first_stays (look_text l), undrawn ps h.1) refl
+
+pub as_is : (ps : List Piece) → AreSafe ps → as_read first_reading (parts_of ps) ≡ parts_of ps
+as_is ps h = ap (with_sets first_sets) (untitled ps) ∙ undrawn ps h
 
 -- ---- stripped
 
@@ -199,7 +208,7 @@ same_text bytes painted text o p =
     p.all ∙ ap (λ (steps : List Step). shown_by Plain (do_all most fresh steps blank)) (one_reading bytes p.steps o.steps p.read o.read) ∙ shown_plain d
     ∙ ap encode_utf8_all (sym (cells_chars (cells_by d) plain)) in
     rw (o.all, ← all_painted d)
-    (record { parts = parts_of ps; whole = whole_pieces ps safe; left = left ∙ sym (ap (stripped []) (untitled ps) ∙ stripped_pieces ps [] refl tt safe) })
+    (record { parts = parts_of ps; whole = whole_pieces ps safe; left = left ∙ sym (ap (stripped []) (as_is ps safe) ∙ stripped_pieces ps [] refl tt safe) })
 
 -- ---- The page of lines is the page of what is painted of them: piece by piece, a character is itself, and the sequence of a look the tags between
 -- it and the look before.
@@ -293,7 +302,7 @@ module _ (m : Markup) where
     parts = parts_of ps;
     whole = whole_pieces ps safe;
     pieces = marks plain ps;
-    left = subst (λ (parts : List Part). AreLeft (looking plain) [] parts (marks plain ps)) (sym (untitled ps)) (left ps plain [] e refl tt safe);
+    left = subst (λ (parts : List Part). AreLeft (looking plain) [] parts (marks plain ps)) (sym (as_is ps safe)) (left ps plain [] e refl tt safe);
     all = refl;
   }
 

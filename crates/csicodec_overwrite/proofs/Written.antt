@@ -1,6 +1,6 @@
 -- What steps write, one behind the other, and what comes of a stream.
-use Rattle.csicodec_overwrite.proofs.Common.{◌≡◌, ℕ, List, [], ◌∷◌, ◌++◌, refl, sym, ap, subst, ◌∙◌, ⊎_elim, append_assoc, append-nil, false, Option, IfSome, concat, Appends, Consumes, IsAtEnd, Sends, Transforms, Line, Marking, Pen, Step, lossy_chars, Kind, Part, parts_more, longest, IsRead, title_open, with_titles, titles_on, read_none, before, blank, do_all, does, fresh, pen_behind, pen_behind_all, texts_of, PassesFront, Shows, most, shown_by, AreOfParts, IsOfPart, Steps, columns, of_run, of_chars, of_sequence, Ending, Held, Now, Passes, Reads, begun_as, none_held, Goes, DoesAll, Action}
-use Rattle.csicodec_overwrite.proofs.Read.{reads_none, reads_on, whole_reads, run_read}
+use Rattle.csicodec_overwrite.proofs.Common.{◌≡◌, ℕ, List, [], ◌∷◌, ◌++◌, refl, sym, ap, subst, ◌∙◌, ⊎_elim, append_assoc, append-nil, false, Option, IfSome, concat, Appends, Consumes, IsAtEnd, Sends, Transforms, Line, Marking, Pen, Step, lossy_chars, Kind, Part, parts_more, longest, IsRead, as_read, as_read_on, first_reading, read_behind, IsBare, read_none, before, blank, do_all, does, fresh, pen_behind, pen_behind_all, texts_of, PassesFront, Shows, most, shown_by, AreOfParts, IsOfPart, Steps, columns, of_run, of_chars, of_sequence, Ending, Held, Now, Passes, Reads, begun_as, none_held, Goes, DoesAll, Action}
+use Rattle.csicodec_overwrite.proofs.Read.{bare_first, reads_none, reads_on, whole_reads, run_read}
 use Rattle.csicodec_looks.proofs.Texts.{texts_on}
 use Rattle.csicodec_transform.specs.Transform.{Begins, GoesOn, Begins as BeginsWith}
 use Rattle.csicodec_clean.specs.Stream.{AreTaken, IsFrontOf}
@@ -30,8 +30,8 @@ shown_on marking limit xs ys pen l = rw (all_on limit xs ys pen l, texts_on mark
 -- ---- a stream
 
 -- nothing comes, where nothing is held
-pub passes_none : (now : Now) → now.reader ≡ none_held → Passes now [] [] now
-passes_none now bare = record { steps = []; reads = rw bare reads_none; pen = refl; marking = refl; line = refl; all = refl }
+pub passes_none : (now : Now) → IsBare now.reader → Passes now [] [] now
+passes_none now bare = record { steps = []; reads = reads_none now.reader bare; pen = refl; marking = refl; line = refl; all = refl }
 
 -- bytes more
 pub passes_on : (old mid new : Now) (first second one two : List ℕ) → Passes old first one mid → Passes mid second two new → Passes old (first ++ second) (one ++ two) new
@@ -48,7 +48,7 @@ pub goes : (old new : Now) (bytes text : List ℕ) → Passes old bytes text new
 goes old new bytes text q first read written p = passes_on first old new read bytes written text p q
 
 -- nothing is taken, where nothing is held
-pub none_taken : (now : Now) (bytes out : List ℕ) → now.reader ≡ none_held → PassesFront now bytes bytes now out out
+pub none_taken : (now : Now) (bytes out : List ℕ) → IsBare now.reader → PassesFront now bytes bytes now out out
 none_taken now bytes out bare = record { front = []; text = []; split = refl; passes = passes_none now bare; out = sym (append-nil out) }
 
 -- what is taken in front, and then of the rest
@@ -104,7 +104,7 @@ pub any_chunks : (marking : Marking) (chunks : List (List ℕ)) (text rest : Lis
     → Ending last rest → Shows marking (concat chunks) (text ++ rest)
 any_chunks marking chunks text rest last taken ending =
     let first = begun_as marking in
-    let passed = taken_on Passes (GoesOn Passes) first (λ bytes text old new chunk more p goes. goes first bytes text p) [] [] first last chunks text (passes_none first refl) taken in
+    let passed = taken_on Passes (GoesOn Passes) first (λ bytes text old new chunk more p goes. goes first bytes text p) [] [] first last chunks text (passes_none first bare_first) taken in
     shows marking (concat chunks) text rest last passed ending
 
 -- ---- A stream has one text, and what was written of its front begins that.
@@ -132,7 +132,7 @@ parted run (p ∷ ps) qs x y a b (first, next, others, is, e, rest) (one, after,
 pub one_reading : (bytes : List ℕ) (steps others : List Step) → Steps bytes steps → Steps bytes others → steps ≡ others
 one_reading bytes steps others s t =
     let parts = (parts_once longest s.parts t.parts Mode.Text bytes s.rest t.rest s.after t.after s.first s.unsure t.first t.unsure).parts in
-    let (later, (none, run), before) = parted [] (with_titles false s.parts) [] s.before t.before s.run t.run s.read (rw (append-nil, parts) t.read) in
+    let (later, (none, run), before) = parted [] (as_read first_reading s.parts) [] s.before t.before s.run t.run s.read (rw (append-nil, parts) t.read) in
     rw (s.all, t.all, before, none, run, append-nil) refl
 
 pub one_text : (marking : Marking) (bytes text other : List ℕ) → Shows marking bytes text → Shows marking bytes other → text ≡ other
@@ -165,13 +165,13 @@ parts_begin run chars rest (q ∷ qs) later last h (first, next, others, is, e, 
 
 -- the steps that came for a front of some bytes begin those of all
 goes_front : (read more : List ℕ) (steps all : List Step) (last : Held)
-    → (g : Goes Mode.Text false [] [] read steps last.bytes last.mode last.titled last.held) → Steps (read ++ more) all → GoesOnFrom all steps
+    → (g : Goes Mode.Text first_reading [] [] read steps last.bytes last.mode last.reading last.held) → Steps (read ++ more) all → GoesOnFrom all steps
 goes_front read more steps all last g s =
     let (qs, parts) =
     parts_front longest g.parts s.parts Mode.Text (read ++ more) (last.bytes ++ more) s.rest last.mode s.after
     (parts_more longest g.parts Mode.Text read more last.bytes last.mode g.first) s.first s.unsure in
-    let own = with_titles (title_open false g.parts) qs in
-    let (first, are, e) = parted [] (with_titles false g.parts) own g.before s.before g.left s.run g.are (rw (← titles_on false g.parts qs, ← parts) s.read) in
+    let own = as_read (read_behind first_reading g.parts) qs in
+    let (first, are, e) = parted [] (as_read first_reading g.parts) own g.before s.before g.left s.run g.are (rw (← as_read_on first_reading g.parts qs, ← parts) s.read) in
     let (later, f) = parts_begin g.left g.read last.held own first s.run g.is_read are in (
       later,
       s.all ∙ ap (λ (x : List Step). x ++ of_run s.run) e ∙ append_assoc g.before first (of_run s.run) ∙ ap (λ (x : List Step). g.before ++ x) f

@@ -1,10 +1,10 @@
--- The steps of a stream: those of the characters of its runs of text, each read by itself, of its escape sequences, of its control
+-- The steps of a stream: those of the characters of its runs of text, each read by itself as its graphic sets draw it, of its escape sequences, of its control
 -- sequences as terminals take them, and of what went wrong. Control strings and titles end a run, and do nothing, but stand behind what was put last.
-use Rattle.std.specs.Prelude.{ℕ, ◌≡◌, false, List, [], ◌∷◌, ◌++◌}
+use Rattle.std.specs.Prelude.{ℕ, ◌≡◌, List, [], ◌∷◌, ◌++◌}
 use Rattle.csicodec_actions.specs.Actions.{Action}
 use Rattle.csicodec_terminal.specs.Terminal.{IsTakenFor}
 use Rattle.csicodec_spans.specs.{declared.table.Kind.Kind, Parts.Part, Parts.AreFirstParts, Parts.IsUnsure, declared.table.Mode.Mode}
-use Rattle.csicodec_clean.specs.{Cleaned.longest, Titles.with_titles}
+use Rattle.csicodec_clean.specs.{Cleaned.longest, Sets.as_read, Sets.first_reading}
 use Rattle.csicodec_looks.specs.{declared.markup.Markup.Markup, declared.marking.Marking.Marking, declared.marking.Marking.TheVariants.Page}
 use Rattle.csicodec_looks.specs.{declared.marking.Marking.TheVariants.Plain, declared.marking.Marking.TheVariants.Styled, declared.step.Step.Step, Line.blank}
 use Rattle.csicodec_looks.specs.{Line.do_all, Line.fresh, Line.most, Row.shown_by}
@@ -36,7 +36,7 @@ pub record Steps (bytes : List ℕ) (steps : List Step) : Type 0 where
   pub unsure : IsUnsure longest after rest
   pub before : List Step
   pub run : List ℕ
-  pub read : AreOfParts [] (with_titles false parts) before run
+  pub read : AreOfParts [] (as_read first_reading parts) before run
   pub all : steps ≡ before ++ of_run run
 
 -- the lines of the stream, each as it stands when it ends, as UTF-8, as what they are written

@@ -1,34 +1,39 @@
 -- A stream as it comes, chunk by chunk.
-use Rattle.std.specs.{Prelude.ℕ, Prelude.◌≡◌, Prelude.Bool, Prelude.false, Prelude.List, Prelude.[], Prelude.◌++◌, List.concat}
+use Rattle.std.specs.{Prelude.ℕ, Prelude.◌≡◌, Prelude.false, Prelude.List, Prelude.[], Prelude.◌++◌, List.concat}
 use Rattle.csicodec_spans.specs.{declared.table.Mode.Mode, Parts.Part, Parts.AreFirstParts, Parts.IsUnsure}
 use Rattle.csicodec_transform.specs.Transform.{GoesOn}
-use Rattle.csicodec_clean.specs.{Cleaned.longest, Shown.IsRead, Stream.AreTaken, Titles.title_open, Titles.with_titles}
+use Rattle.csicodec_clean.specs.{Cleaned.longest, Shown.IsRead, Stream.AreTaken, Sets.as_read, Sets.first_sets, Sets.read_behind}
+use Rattle.csicodec_clean.specs.{declared.reading.Reading.Reading, declared.reading.Sets.Sets}
 use Rattle.csicodec_looks.specs.{declared.line.Line.Line, Line.blank, Line.do_all, Line.fresh, Line.pen_behind_all, Line.most, declared.marking.Marking.Marking}
 use Rattle.csicodec_looks.specs.{declared.marking.Marking.TheVariants.Plain, declared.pen.Pen.Pen, declared.step.Step.Step, Steps.of_chars, Paint.texts_of}
 use Rattle.csicodec_looks.specs.{Row.shown_by}
 use Rattle.csicodec_overwrite.specs.{Steps.of_run, Reading.AreOfParts, Reading.Shows}
 
--- between two pushes: what is open and whether that is a title, the bytes of which nothing is sure yet, and those of a character before them
+-- between two pushes: what is open, how text is read, the bytes of which nothing is sure yet, and those of a character before them
 pub record Held : Type 0 where
   pub mode : Mode
-  pub titled : Bool
+  pub reading : Reading
   pub bytes : List ℕ
   pub held : List ℕ
 
+-- nothing is open or held, and text is read in these sets
+abbrev pub none_in : Sets → Held
+none_in sets = record { mode = Mode.Text; reading = record { titled = false; sets = sets }; bytes = []; held = [] }
+
 abbrev pub none_held : Held
-none_held = record { mode = Mode.Text; titled = false; bytes = []; held = [] }
+none_held = none_in first_sets
 
 -- Behind a run of text that reads as the characters and then the bytes that were held, of which the characters have given their
 -- steps: the parts in front of the bytes, and the steps that came for them.
-pub record Goes (m : Mode) (t : Bool) (run chars bytes : List ℕ) (steps : List Step)
-    (rest : List ℕ) (a : Mode) (later : Bool) (held : List ℕ) : Type 0 where
+pub record Goes (m : Mode) (r : Reading) (run chars bytes : List ℕ) (steps : List Step)
+    (rest : List ℕ) (a : Mode) (later : Reading) (held : List ℕ) : Type 0 where
   pub parts : List Part
   pub before : List Step
   pub left : List ℕ
   pub read : List ℕ
   pub first : AreFirstParts longest m bytes parts rest a
-  pub titles : later ≡ title_open t parts
-  pub are : AreOfParts run (with_titles t parts) before left
+  pub reading : later ≡ read_behind r parts
+  pub are : AreOfParts run (as_read r parts) before left
   pub is_read : IsRead left read held
   pub same : of_chars chars ++ steps ≡ before ++ of_chars read
 
@@ -36,7 +41,7 @@ pub record Goes (m : Mode) (t : Bool) (run chars bytes : List ℕ) (steps : List
 pub record Reads (old : Held) (bytes : List ℕ) (steps : List Step) (new : Held) : Type 0 where
   pub unsure : IsUnsure longest new.mode new.bytes
   pub goes : (run chars : List ℕ) → IsRead run chars old.held
-      → Goes old.mode old.titled run chars (old.bytes ++ bytes) steps new.bytes new.mode new.titled new.held
+      → Goes old.mode old.reading run chars (old.bytes ++ bytes) steps new.bytes new.mode new.reading new.held
 
 -- what a stream is between two pushes: what is held of it, how characters are put, as what lines are written, and the one that isn't over
 pub record Now : Type 0 where

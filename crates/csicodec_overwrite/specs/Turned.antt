@@ -2,7 +2,7 @@
 use Rattle.std.specs.Prelude.{ℕ, ◌≡◌, List, [], ◌∷◌}
 use Rattle.csicodec_looks.specs.{declared.look.Look.Look, Look.behind, declared.marking.Marking.Marking, Paint.turn, declared.step.Step.Step}
 use Rattle.csicodec_looks.specs.{declared.pen.Pen.Pen}
-use Rattle.csicodec_overwrite.specs.Stream.{Reads, none_held}
+use Rattle.csicodec_overwrite.specs.Stream.{Held, Reads}
 use Rattle.csicodec_clean.specs.{declared.saving.Looks.Looks, Saving.looks}
 use Rattle.csicodec_actions.specs.Ranges.{ColorInRange}
 
@@ -17,13 +17,13 @@ abbrev pub AreLooks : Look → List Step → Look → Type 0
 AreLooks look [] after = after ≡ look
 AreLooks look (s ∷ steps) after = (mid : Look) × IsLook look s mid × AreLooks mid steps after
 
--- bytes that are read by themselves, and do no more than that
-abbrev pub Sets : List ℕ → Look → Look → Type 0
-Sets bytes look after = (steps : List Step) × Reads none_held bytes steps none_held × AreLooks look steps after
+-- bytes before which and behind which this is held, and that do no more than that
+abbrev pub SetsLook : Held → List ℕ → Look → Look → Type 0
+SetsLook h bytes look after = (steps : List Step) × Reads h bytes steps h × AreLooks look steps after
 
 -- they turn text of one look into text of another, and this is written for it
-abbrev pub Turned : Marking → List ℕ → Look → Look → List ℕ → Type 0
-Turned marking bytes old new tags = Sets bytes old new × (tags ≡ turn marking old new)
+abbrev pub Turned : Held → Marking → List ℕ → Look → Look → List ℕ → Type 0
+Turned h marking bytes old new tags = SetsLook h bytes old new × (tags ≡ turn marking old new)
 
 -- ---- the sequence of a look
 

@@ -1,11 +1,13 @@
 //! The front of a line that is written as it comes: text of ASCII, and sequences that do no more than to set how it looks.
 ghost use Rattle.std.specs.{Prelude.◌≡◌, Prelude.◌<◌, Prelude.◌≤◌, Prelude.◌++◌, Prelude.false, Prelude.true, Prelude.length, Prelude.IfOk, Prelude.OnOk};
 ghost use Rattle.std.specs.{List.AllByRecursion};
-ghost use Rattle.csicodec_looks.specs.{Turns.AreTurns, Paint.turn, Plain.IsLineByte};
-ghost use Rattle.csicodec_overwrite.specs.{Turned.AreLooks, Turned.Sets, Turned.Turned, Private.Front.IsStyled, Private.Front.IsTurned, Private.Front.IsWritten};
-ghost use Rattle.csicodec_overwrite.specs.{Private.Front.last_of_run, Private.Front.run_text, Stream.none_held};
+ghost use Rattle.csicodec_looks.specs.{Turns.AreTurns, Paint.turn, Plain.IsLineByte, declared.sets.Set.TheVariants.Ascii};
+ghost use Rattle.csicodec_overwrite.specs.{Turned.AreLooks, Turned.SetsLook, Turned.Turned, Private.Front.IsStyled, Private.Front.IsTurned, Private.Front.IsWritten};
+ghost use Rattle.csicodec_overwrite.specs.{Private.Front.last_of_run, Private.Front.run_text, Stream.none_in};
+ghost use Rattle.csicodec_clean.specs.Sets.{in_use};
 
 use crate::reader::Reader;
+use csicodec_clean::Sets;
 use csicodec_looks::paint::{append_ascii, append_turn};
 use csicodec_looks::{
     InFront, InLine, Look, Marking, Pen, Step, Turning, Turns, split_front, style_len,
@@ -13,14 +15,14 @@ use csicodec_looks::{
 use csicodec_spans::LIMIT;
 use std::alloc::AllocError;
 
-/// What control sequences turn where lines are written so.
+/// What control sequences turn where lines are written so, and text is read in these sets.
 #[derive(Drop)]
-pub(crate) struct Turner<'a>(pub(crate) &'a Marking);
+pub(crate) struct Turner<'a>(pub(crate) &'a Marking, pub(crate) Sets);
 
 impl Turning for Turner<'_> {
-    ghost use Rattle.csicodec_overwrite.specs.Turned.{Turned};
+    ghost use Rattle.csicodec_overwrite.specs.{Stream.none_in, Turned.Turned};
 
-    ghost turns = { λ by. Turned by.0.now };
+    ghost turns = { λ by. Turned (none_in by.1) by.0.now };
 }
 
 /// Whether steps do no more than to set how characters look, where nothing stands right of the cursor; they look so then. Where one does
@@ -46,30 +48,33 @@ fn turn_all(look: &mut Look, steps: &[Step]) -> bool
     true
 }
 
-/// The same of bytes, if there are some. `steps` is a place for their steps.
+/// The same of bytes, if there are some, where text is read in these sets. `steps` is a place for their steps.
 #[inline(always)]
 fn turn_bytes(
     reader: &mut Reader,
     steps: &mut Vec<Step>,
+    sets: Sets,
     look: &mut Look,
     bytes: &[u8],
 ) -> Result<bool, AllocError>
-    requires { reader.old ≡ none_held }
-    ensures sets { IfOk result (λ turned. turned ≡ true → Sets bytes.now look.old look.new) }
+    requires { reader.old ≡ none_in sets }
+    ensures sets { IfOk result (λ turned. turned ≡ true → SetsLook (none_in sets) bytes.now look.old look.new) }
     ensures some { IfOk result (λ turned. turned ≡ true → 0 < length bytes.now) }
     ensures kept { IfOk result (λ turned. turned ≡ false → look.new ≡ look.old) }
-    ensures bare { OnOk result (reader.new ≡ none_held) }
+    ensures bare { OnOk result (reader.new ≡ none_in sets) }
 {
     if bytes.is_empty() {
         return Ok(false);
     }
-    if let Some(known) = reader.recall(bytes) {
-        return Ok(turn_all(look, known));
+    if let Some(known) = reader.recall(bytes)
+        && known.after == sets
+    {
+        return Ok(turn_all(look, &known.steps));
     }
     steps.clear();
     reader.push(bytes, steps)?;
-    if !reader.is_bare() {
-        reader.clear();
+    if !reader.is_bare() || reader.sets() != sets {
+        reader.clear(sets);
         return Ok(false);
     }
     Ok(turn_all(look, steps))
@@ -118,20 +123,20 @@ fn append_even(
     reader: &mut Reader,
     steps: &mut Vec<Step>,
     turns: &mut Turns,
-    marking: &Marking,
+    by: &Turner<'_>,
     front: &mut LineFront<'_>,
     len: usize,
     out: &mut Vec<u8>,
 ) -> Result<bool, AllocError>
-    requires bare { reader.old ≡ none_held }
-    requires known { AreTurns (Turned marking.now) turns.old.kept.items }
+    requires bare { reader.old ≡ none_in by.now.1 }
+    requires known { AreTurns (Turned (none_in by.now.1) by.now.0.now) turns.old.kept.items }
     requires some { (0 < len) × (len ≤ length front.old.rest.now) }
     requires even { front.old.last ≡ front.old.now }
-    ensures turned { IfOk result (λ is. is ≡ true → IsTurned marking.now front.old len front.new
-        × (out.new.items ≡ out.old.items ++ turn marking.now front.old.last front.new.now)) }
+    ensures turned { IfOk result (λ is. is ≡ true → IsTurned (none_in by.now.1) by.now.0.now front.old len front.new
+        × (out.new.items ≡ out.old.items ++ turn by.now.0.now front.old.last front.new.now)) }
     ensures none { IfOk result (λ is. is ≡ false → (front.new ≡ front.old) × (out.new.items ≡ out.old.items)) }
-    ensures bare { OnOk result (reader.new ≡ none_held) }
-    ensures known { AreTurns (Turned marking.now) turns.new.kept.items }
+    ensures bare { OnOk result (reader.new ≡ none_in by.now.1) }
+    ensures known { AreTurns (Turned (none_in by.now.1) by.now.0.now) turns.new.kept.items }
 {
     let bytes = front.rest;
     let known = InFront {
@@ -139,17 +144,17 @@ fn append_even(
         least: len,
         most: len,
     };
-    if turns.recall(&Turner(marking), &mut front.now, known, out)? > 0 {
+    if turns.recall(by, &mut front.now, known, out)? > 0 {
         front.last = front.now;
         return Ok(true);
     }
     let (sequence, before) = (bytes.split_at(len).0, out.len());
-    if !turn_bytes(reader, steps, &mut front.now, sequence)? {
+    if !turn_bytes(reader, steps, by.1, &mut front.now, sequence)? {
         return Ok(false);
     }
-    append_turn(marking, &front.last, &front.now, out)?;
+    append_turn(by.0, &front.last, &front.now, out)?;
     let tags = out.split_at(before).1;
-    turns.keep(&Turner(marking), sequence, front.last, front.now, tags)?;
+    turns.keep(by, sequence, front.last, front.now, tags)?;
     front.last = front.now;
     Ok(true)
 }
@@ -160,18 +165,18 @@ fn append_styled<'a>(
     reader: &mut Reader,
     steps: &mut Vec<Step>,
     turns: &mut Turns,
-    marking: &Marking,
+    by: &Turner<'_>,
     front: &mut LineFront<'a>,
     out: &mut Vec<u8>,
 ) -> Result<bool, AllocError>
-    requires bare { reader.old ≡ none_held }
-    requires known { AreTurns (Turned marking.now) turns.old.kept.items }
+    requires bare { reader.old ≡ none_in by.now.1 }
+    requires known { AreTurns (Turned (none_in by.now.1) by.now.0.now) turns.old.kept.items }
     requires even { front.old.even ≡ true → front.old.last ≡ front.old.now }
-    ensures styled { IfOk result (λ is. is ≡ true → IsStyled marking.now front.old out.old.items front.new out.new.items) }
+    ensures styled { IfOk result (λ is. is ≡ true → IsStyled (none_in by.now.1) by.now.0.now front.old out.old.items front.new out.new.items) }
     ensures fewer { IfOk result (λ is. is ≡ true → length front.new.rest.now < length front.old.rest.now) }
     ensures none { IfOk result (λ is. is ≡ false → (front.new ≡ front.old) × (out.new.items ≡ out.old.items)) }
-    ensures bare { OnOk result (reader.new ≡ none_held) }
-    ensures known { AreTurns (Turned marking.now) turns.new.kept.items }
+    ensures bare { OnOk result (reader.new ≡ none_in by.now.1) }
+    ensures known { AreTurns (Turned (none_in by.now.1) by.now.0.now) turns.new.kept.items }
     ensures even { OnOk result (front.new.even ≡ true → front.new.last ≡ front.new.now) }
 {
     let len = style_len(front.rest);
@@ -180,19 +185,19 @@ fn append_styled<'a>(
     if len == 0 || behind.len() < front.least {
         return Ok(false);
     }
-    if front.even && marking.shows_looks() && !run.is_empty() {
-        if !append_even(reader, steps, turns, marking, front, len, out)? {
+    if front.even && by.0.shows_looks() && !run.is_empty() {
+        if !append_even(reader, steps, turns, by, front, len, out)? {
             return Ok(false);
         }
         front.rest = behind;
-        append_ascii(marking, run, out)?;
+        append_ascii(by.0, run, out)?;
         return Ok(true);
     }
-    if !turn_bytes(reader, steps, &mut front.now, sequence)? {
+    if !turn_bytes(reader, steps, by.1, &mut front.now, sequence)? {
         return Ok(false);
     }
     front.rest = behind;
-    append_run(&mut front.last, &front.now, run, marking, out)?;
+    append_run(&mut front.last, &front.now, run, by.0, out)?;
     front.even = !run.is_empty();
     turns.stand(&front.now);
     Ok(true)
@@ -205,16 +210,17 @@ pub(crate) fn append_front<'a>(
     steps: &mut Vec<Step>,
     turns: &mut Turns,
     pen: Pen,
-    marking: &Marking,
+    by: &Turner<'_>,
     bytes: &'a [u8],
     out: &mut Vec<u8>,
 ) -> Result<LineFront<'a>, AllocError>
-    requires bare { reader.old ≡ none_held }
+    requires bare { reader.old ≡ none_in by.now.1 }
+    requires ascii { in_use by.now.1 ≡ Ascii }
     requires over { pen.inserts ≡ false }
-    requires known { AreTurns (Turned marking.now) turns.old.kept.items }
-    ensures written { IfOk result (λ f. IsWritten marking.now pen bytes.now out.old.items f out.new.items) }
-    ensures bare { OnOk result (reader.new ≡ none_held) }
-    ensures known { AreTurns (Turned marking.now) turns.new.kept.items }
+    requires known { AreTurns (Turned (none_in by.now.1) by.now.0.now) turns.old.kept.items }
+    ensures written { IfOk result (λ f. IsWritten (none_in by.now.1) by.now.0.now pen bytes.now out.old.items f out.new.items) }
+    ensures bare { OnOk result (reader.new ≡ none_in by.now.1) }
+    ensures known { AreTurns (Turned (none_in by.now.1) by.now.0.now) turns.new.kept.items }
 {
     let (run, behind) = split_front::<InLine>(bytes);
     let mut front = LineFront {
@@ -227,10 +233,10 @@ pub(crate) fn append_front<'a>(
     if behind.len() < front.least {
         return Ok(front);
     }
-    append_run(&mut front.last, &pen.look, run, marking, out)?;
+    append_run(&mut front.last, &pen.look, run, by.0, out)?;
     front.rest = behind;
     front.even = front.last == front.now;
     turns.stand(&pen.look);
-    while append_styled(reader, steps, turns, marking, &mut front, out)? {}
+    while append_styled(reader, steps, turns, by, &mut front, out)? {}
     Ok(front)
 }

@@ -1,10 +1,13 @@
 //! A stream of which each line is overwritten, as it comes.
 ghost use Rattle.std.specs.Prelude.{◌≡◌, ◌≤◌, ◌<◌, ◌++◌, ℕ, List, OnOk, IfNone, IfOk, IfSome, false, length, true};
-ghost use Rattle.csicodec_looks.specs.{Line.blank, declared.marking.Marking.TheVariants.Styled};
-ghost use Rattle.csicodec_overwrite.specs.{Private.Seen.PassesFront, Stream.Ending, Stream.Passes, Stream.begun, Stream.begun_as, Stream.none_held};
+ghost use Rattle.csicodec_clean.specs.Sets.{in_use};
+ghost use Rattle.csicodec_looks.specs.{declared.sets.Set.TheVariants.Ascii, Line.blank, declared.marking.Marking.TheVariants.Styled, Turns.AreTurns};
+ghost use Rattle.csicodec_overwrite.specs.{Private.Seen.PassesFront, Private.Spans.IsAscii, Private.Spans.IsBare, Stream.Ending, Stream.Passes, Stream.begun};
+ghost use Rattle.csicodec_overwrite.specs.{Stream.begun_as, Stream.none_in, Turned.Turned};
 
 use crate::front::{Turner, append_front};
 use crate::reader::Reader;
+use csicodec_clean::Sets;
 use csicodec_looks::paint::{append_ascii, append_turn};
 use csicodec_looks::{
     InLine, Look, Marking, Pen, Row, Step, Turns, behind_end, odd_len, split_front, split_lines,
@@ -40,17 +43,32 @@ pub struct Overwriter {
     missed: u32,
     /// Sequences that came before where text looked so, and what was written for them.
     turns: Turns,
+    /// The sets in which text was read there.
+    sets: Sets,
 }
 
 impl Model for Overwriter {
-    ghost use Rattle.csicodec_overwrite.specs.{Stream.Now, Turned.Turned};
+    ghost use Rattle.csicodec_overwrite.specs.{Stream.Now, Stream.none_in, Turned.Turned};
     ghost use Rattle.csicodec_looks.specs.Turns.{AreTurns};
 
     ghost Value = { Now };
 
     ghost view = { λ o. record { reader = o.reader; pen = o.pen; marking = o.marking; line = o.line } };
 
-    ghost invariant = { λ o. AreTurns (Turned o.marking) o.turns.kept.items };
+    ghost invariant = { λ o. AreTurns (Turned (none_in o.sets) o.marking) o.turns.kept.items };
+}
+
+/// From here on sequences are kept that turn text in these sets. Those of others are forgotten.
+#[inline(always)]
+fn stand(turns: &mut Turns, of: &mut Sets, marking: &Marking, sets: Sets, alloc: Global)
+    requires { AreTurns (Turned (none_in of.old) marking.now) turns.old.kept.items }
+    ensures sets { of.new ≡ sets }
+    ensures known { AreTurns (Turned (none_in of.new) marking.now) turns.new.kept.items }
+{
+    if *of != sets {
+        *turns = Turns::new(alloc, &Turner(marking, sets));
+        *of = sets;
+    }
 }
 
 impl Overwriter {
@@ -72,6 +90,7 @@ impl Overwriter {
     pub fn writing(alloc: Global, marking: Marking) -> Overwriter
         ensures { result ≡ begun_as marking }
     {
+        let sets = Sets::first();
         Overwriter {
             reader: Reader::new(alloc),
             pen: Pen::new(),
@@ -80,20 +99,21 @@ impl Overwriter {
             steps: Vec::new(alloc),
             crooked: usize::MAX,
             missed: 0,
-            turns: Turns::new(alloc, &Turner(&marking)),
+            turns: Turns::new(alloc, &Turner(&marking, sets)),
+            sets,
         }
     }
 
     /// Takes the text of ASCII in front, and answers what is behind it.
     #[inline(always)]
     fn take_text<'a>(&mut self, bytes: &'a [u8], out: &mut Vec<u8>) -> Result<&'a [u8], AllocError>
-        requires { self.old.reader ≡ none_held }
+        requires { IsBare self.old.reader }
         ensures passes { IfOk result (λ rest. PassesFront self.old bytes.now rest.now self.new
             out.old.items out.new.items) }
-        ensures reader { OnOk result (self.new.reader ≡ none_held) }
+        ensures reader { OnOk result (self.new.reader ≡ self.old.reader) }
     {
         // No text stands in front of a sequence.
-        if matches!(bytes, [0x1b, ..]) {
+        if matches!(bytes, [0x1b, ..]) || !self.reader.is_ascii() {
             return Ok(bytes);
         }
         let (text, rest) = split_front::<InLine>(bytes);
@@ -108,13 +128,13 @@ impl Overwriter {
         bytes: &'a [u8],
         out: &mut Vec<u8>,
     ) -> Result<Option<&'a [u8]>, AllocError>
-        requires { self.old.reader ≡ none_held }
+        requires { IsBare self.old.reader }
         ensures passes { IfOk result (λ o. IfSome o
             (λ rest. PassesFront self.old bytes.now rest.now self.new out.old.items out.new.items)) }
         ensures fewer { IfOk result (λ o. IfSome o (λ rest. length rest.now < length bytes.now)) }
         ensures none { IfOk result
             (λ o. IfNone o ((self.new ≡ self.old) × (out.new.items ≡ out.old.items))) }
-        ensures reader { OnOk result (self.new.reader ≡ none_held) }
+        ensures reader { OnOk result (IsBare self.new.reader) }
     {
         if bytes.is_empty() || behind_end(bytes).is_some() {
             return Ok(None);
@@ -123,8 +143,10 @@ impl Overwriter {
         let Some(known) = self.reader.recall(front) else {
             return Ok(None);
         };
+        let after = known.after;
         self.line
-            .take_all(&mut self.pen, known, &self.marking, out)?;
+            .take_all(&mut self.pen, &known.steps, &self.marking, out)?;
+        self.reader.pass(after);
         Ok(Some(rest))
     }
 
@@ -134,10 +156,10 @@ impl Overwriter {
         bytes: &'a [u8],
         out: &mut Vec<u8>,
     ) -> Result<&'a [u8], AllocError>
-        requires { self.old.reader ≡ none_held }
+        requires { IsBare self.old.reader }
         ensures passes { IfOk result (λ rest. PassesFront self.old bytes.now rest.now self.new
             out.old.items out.new.items) }
-        ensures reader { OnOk result (self.new.reader ≡ none_held) }
+        ensures reader { OnOk result (IsBare self.new.reader) }
     {
         let mut rest = bytes;
         loop {
@@ -171,10 +193,15 @@ impl Overwriter {
 
     /// Whether a line that is written as it comes may begin here, and is tried.
     fn begins_line(&self, bytes: &[u8]) -> bool
-        ensures { result ≡ true → (self.now.line ≡ blank) × (self.now.pen.inserts ≡ false) }
+        ensures { result ≡ true → (self.now.line ≡ blank) × (self.now.pen.inserts ≡ false)
+            × (in_use self.now.reader.reading.sets ≡ Ascii) }
     {
         let is_tried = self.missed < PATIENCE || bytes.len() % EVERY == 0;
-        bytes.len() <= self.crooked && is_tried && self.line.is_blank() && !self.pen.inserts
+        bytes.len() <= self.crooked
+            && is_tried
+            && self.line.is_blank()
+            && !self.pen.inserts
+            && self.reader.is_ascii()
     }
 
     /// Takes the line in front, written as it comes, and answers what is behind it. Where it can't be, it takes nothing.
@@ -183,18 +210,21 @@ impl Overwriter {
         bytes: &'a [u8],
         out: &mut Vec<u8>,
     ) -> Result<Option<&'a [u8]>, AllocError>
-        requires bare { self.old.reader ≡ none_held }
+        requires bare { IsAscii self.old.reader }
         requires blank { self.old.line ≡ blank }
         requires over { self.old.pen.inserts ≡ false }
         ensures passes { IfOk result (λ o. IfSome o
             (λ rest. PassesFront self.old bytes.now rest.now self.new out.old.items out.new.items)) }
         ensures none { IfOk result
             (λ o. IfNone o ((self.new ≡ self.old) × (out.new.items ≡ out.old.items))) }
-        ensures reader { OnOk result (self.new.reader ≡ none_held) }
+        ensures reader { OnOk result (self.new.reader ≡ self.old.reader) }
     {
+        let (alloc, sets) = (*self.steps.allocator(), self.reader.sets());
+        stand(&mut self.turns, &mut self.sets, &self.marking, sets, alloc);
         let before = out.len();
         let (reader, steps, turns) = (&mut self.reader, &mut self.steps, &mut self.turns);
-        let front = append_front(reader, steps, turns, self.pen, &self.marking, bytes, out)?;
+        let by = Turner(&self.marking, self.sets);
+        let front = append_front(reader, steps, turns, self.pen, &by, bytes, out)?;
         let Some(rest) = behind_end(front.rest) else {
             out.truncate(before);
             self.crooked = front.rest.len();
@@ -216,10 +246,10 @@ impl Overwriter {
         bytes: &'a [u8],
         out: &mut Vec<u8>,
     ) -> Result<&'a [u8], AllocError>
-        requires { self.old.reader ≡ none_held }
+        requires { IsAscii self.old.reader }
         ensures passes { IfOk result (λ rest. PassesFront self.old bytes.now rest.now self.new
             out.old.items out.new.items) }
-        ensures reader { OnOk result (self.new.reader ≡ none_held) }
+        ensures reader { OnOk result (self.new.reader ≡ self.old.reader) }
     {
         if is_likely
             && self.line.is_blank()
@@ -235,7 +265,7 @@ impl Overwriter {
 
     /// Takes the end of the line in front, or a line, or text of ASCII and slices that came before.
     fn take_ready<'a>(&mut self, bytes: &'a [u8], out: &mut Vec<u8>) -> Result<&'a [u8], AllocError>
-        requires { self.old.reader ≡ none_held }
+        requires { IsBare self.old.reader }
         ensures passes { IfOk result (λ rest. PassesFront self.old bytes.now rest.now self.new
             out.old.items out.new.items) }
         ensures held { OnOk result (length self.new.reader.held ≤ 3) }
@@ -307,7 +337,7 @@ impl Overwriter {
         self.line
             .take_all(&mut self.pen, &self.steps, &self.marking, out)?;
         self.line.take_text(&self.marking, out)?;
-        self.reader.clear();
+        self.reader.clear(Sets::first());
         self.pen = Pen::new();
         self.missed = 0;
         Ok(())

@@ -2,14 +2,18 @@
 ghost use Rattle.std.specs.Prelude.{◌≡◌, ◌≢◌, ◌≤◌, ◌++◌, ℕ, List, false, true, length, MatchOption, OnOk, IfOk, IfSome};
 ghost use Rattle.csicodec_tokens.specs.Sequence.{Seq};
 ghost use Rattle.csicodec_spans.specs.{Parts.IsUnsure, declared.table.Kind.TheVariants.Csi as Sequence};
-ghost use Rattle.csicodec_clean.specs.{Cleaned.longest, Titles.read_as, Titles.title_behind};
-ghost use Rattle.csicodec_overwrite.specs.{Private.Spans.GoesTo, Private.Spans.IsGiven, Stream.Reads, Stream.none_held, Steps.of_run};
+ghost use Rattle.csicodec_looks.specs.declared.sets.Set.TheVariants.{Ascii};
+ghost use Rattle.csicodec_clean.specs.{Cleaned.longest, Sets.behind, Sets.in_use, Titles.read_as, Titles.title_behind};
+ghost use Rattle.csicodec_overwrite.specs.{Private.Spans.GoesTo, Private.Spans.IsBare, Private.Spans.IsGiven, Stream.Reads, Stream.none_held, Stream.none_in};
+ghost use Rattle.csicodec_overwrite.specs.{Steps.of_run};
 
-use crate::seen::Seen;
-use crate::text::{append_actions, append_by_escape, append_escape, append_run, append_text};
+use crate::seen::{Seen, Slice};
+use crate::text::{
+    append_actions, append_by_escape, append_escape, append_held, append_run, append_text,
+};
 use csicodec_base::CsiParam;
-use csicodec_clean::{read_as, title_behind};
-use csicodec_looks::Step;
+use csicodec_clean::{Reading, Sets, read_as, title_behind};
+use csicodec_looks::{Set, Step};
 use csicodec_parser::CSI;
 use csicodec_spans::{Cutter, Kind, LIMIT, Mode, Waiting};
 use csicodec_terminal::terminal_actions_into;
@@ -25,6 +29,7 @@ fn append_span(
     params: &[CsiParam],
     control: Option<char>,
     held: &mut Vec<u8>,
+    sets: &mut Sets,
     kind: Kind,
     bytes: &[u8],
     steps: &mut Vec<Step>,
@@ -32,15 +37,16 @@ fn append_span(
     requires { MatchOption control (kind ≢ Sequence)
         (λ final. (kind ≡ Sequence) × Seq bytes.now params.now final) }
     ensures given { OnOk result ((more : _)
-        × IsGiven kind held.old.items bytes.now more held.new.items
+        × IsGiven sets.old kind held.old.items bytes.now more held.new.items
         × (steps.new.items ≡ steps.old.items ++ more)) }
-    ensures short { OnOk result (length held.new.items ≤ 3) }
+    ensures sets { OnOk result (sets.new ≡ behind sets.old kind bytes.now) }
+    ensures short { OnOk result (length held.old.items ≤ 3 → length held.new.items ≤ 3) }
 {
     if kind == Kind::Text {
-        return append_text(held, bytes, steps);
+        return append_text(held, sets, bytes, steps);
     }
-    append_run(held, steps)?;
-    held.clear();
+    append_held(held, steps)?;
+    sets.pass(kind, bytes);
     if let Some(control) = control {
         terminal_actions_into(alloc, params, false, control, actions)?;
         append_actions(actions, steps)?;
@@ -58,7 +64,7 @@ fn append_span(
 #[derive(Drop)]
 pub(crate) struct Reader {
     alloc: Global,
-    titled: bool,
+    reading: Reading,
     waiting: Waiting,
     held: Vec<u8>,
     /// Places that are kept for the tokens and the actions of a sequence.
@@ -75,20 +81,20 @@ impl Model for Reader {
 
     ghost Value = { Held };
 
-    ghost view = { λ r. record { mode = r.waiting.mode; titled = r.titled; bytes = r.waiting.bytes; held = r.held.items } };
+    ghost view = { λ r. record { mode = r.waiting.mode; reading = r.reading; bytes = r.waiting.bytes; held = r.held.items } };
 
     ghost invariant = { λ r. (r.waiting.limit ≡ longest) × AreSlices r.seen.kept.items };
 }
 
 /// Appends the steps of all spans of the bytes that are sure, and answers the bytes that aren't, and the mode there.
 ///
-/// `held` are the bytes of the run of text before them that aren't read yet, three at most; `titled` says whether a title is open.
+/// `held` are the bytes of the run of text before them that aren't read yet, three at most; `reading` says how text is read.
 fn append_steps<'a>(
     alloc: Global,
     actions: &mut Vec<CSI>,
     params: &mut Vec<CsiParam>,
     held: &mut Vec<u8>,
-    titled: &mut bool,
+    reading: &mut Reading,
     mode: Mode,
     bytes: &'a [u8],
     steps: &mut Vec<Step>,
@@ -97,7 +103,7 @@ fn append_steps<'a>(
         (λ (rest, after). (front : List ℕ) × (bytes.now ≡ front ++ rest.now)) }
     ensures unsure { IfOk result (λ (rest, after). IsUnsure longest after rest.now) }
     ensures goes { IfOk result
-        (λ (rest, after). GoesTo mode titled.old held.old.items bytes.now rest.now after titled.new held.new.items steps.old.items steps.new.items) }
+        (λ (rest, after). GoesTo mode reading.old held.old.items bytes.now rest.now after reading.new held.new.items steps.old.items steps.new.items) }
     ensures short { OnOk result (length held.old.items ≤ 3 → length held.new.items ≤ 3) }
 {
     let mut looks = Count::new();
@@ -107,11 +113,19 @@ fn append_steps<'a>(
         let Some((span, control)) = cutter.next(LIMIT, params, &mut looks)? else {
             return Ok((rest, open));
         };
-        let kind = read_as(span.kind, *titled);
+        let kind = read_as(span.kind, reading.titled);
         append_span(
-            alloc, actions, params, control, held, kind, span.bytes, steps,
+            alloc,
+            actions,
+            params,
+            control,
+            held,
+            &mut reading.sets,
+            kind,
+            span.bytes,
+            steps,
         )?;
-        *titled = title_behind(*titled, span.kind, span.bytes);
+        reading.titled = title_behind(reading.titled, span.kind, span.bytes);
     }
 }
 
@@ -122,7 +136,7 @@ impl Reader {
     {
         Reader {
             alloc,
-            titled: false,
+            reading: Reading::first(),
             waiting: Waiting::new(alloc, LIMIT),
             held: Vec::new(alloc),
             params: Vec::new(alloc),
@@ -131,21 +145,38 @@ impl Reader {
         }
     }
 
+    /// The sets in which text is read.
+    #[inline(always)]
+    pub(crate) fn sets(&self) -> Sets
+        ensures { result ≡ self.now.reading.sets }
+    {
+        self.reading.sets
+    }
+
+    /// Whether the set that is shifted in is ASCII.
+    #[inline(always)]
+    pub(crate) fn is_ascii(&self) -> bool
+        ensures { result ≡ true → in_use self.now.reading.sets ≡ Ascii }
+    {
+        self.reading.sets.in_use() == Set::Ascii
+    }
+
     /// Whether nothing is open or held.
     pub(crate) fn is_bare(&self) -> bool
-        ensures { result ≡ true → self.now ≡ none_held }
+        ensures { result ≡ true → IsBare self.now }
     {
         self.waiting.mode() == Mode::Text
-            && !self.titled
+            && !self.reading.titled
             && self.waiting.is_empty()
             && self.held.is_empty()
     }
 
-    /// As if nothing had come.
-    pub(crate) fn clear(&mut self)
-        ensures { self.new ≡ none_held }
+    /// As if nothing had come but what designated and shifted these sets.
+    pub(crate) fn clear(&mut self, sets: Sets)
+        ensures { self.new ≡ none_in sets }
     {
-        self.titled = false;
+        self.reading.titled = false;
+        self.reading.sets = sets;
         self.waiting.clear();
         self.held.clear();
     }
@@ -166,7 +197,7 @@ impl Reader {
             &mut self.actions,
             &mut self.params,
             &mut self.held,
-            &mut self.titled,
+            &mut self.reading,
             self.waiting.mode(),
             &all,
             steps,
@@ -176,12 +207,22 @@ impl Reader {
         Ok(())
     }
 
-    /// The steps of bytes before which nothing is open or held, if they came before.
+    /// The slice of these bytes, if they came before where text was read in these sets and nothing was open or held before them and behind them.
     #[inline(always)]
-    pub(crate) fn recall(&self, bytes: &[u8]) -> Option<&[Step]>
-        ensures { IfSome result (λ steps. Reads none_held bytes.now steps.now none_held) }
+    pub(crate) fn recall(&self, bytes: &[u8]) -> Option<&Slice>
+        requires { IsBare self.now }
+        ensures { IfSome result (λ slice. Reads self.now bytes.now slice.now.steps.items (none_in slice.now.after)) }
     {
-        self.seen.recall(bytes)
+        self.seen.recall(self.reading.sets, bytes)
+    }
+
+    /// Behind bytes that came before: text is read in these sets.
+    #[inline(always)]
+    pub(crate) fn pass(&mut self, sets: Sets)
+        requires { IsBare self.old }
+        ensures { self.new ≡ none_in sets }
+    {
+        self.reading.sets = sets;
     }
 
     /// Takes the next bytes, and appends the steps of all that is sure now.
@@ -191,11 +232,12 @@ impl Reader {
         // What is held of a character is short.
         ensures held { OnOk result (length self.old.held ≤ 3 → length self.new.held ≤ 3) }
     {
-        let is_bare = self.is_bare();
+        let (is_bare, sets) = (self.is_bare(), self.reading.sets);
         let before = steps.len();
         self.read(bytes, steps)?;
         if is_bare && self.is_bare() {
-            self.seen.keep(bytes, steps.split_at(before).1)?;
+            let made = steps.split_at(before).1;
+            self.seen.keep(sets, self.reading.sets, bytes, made)?;
         }
         Ok(())
     }

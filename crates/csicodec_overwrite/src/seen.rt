@@ -1,7 +1,8 @@
 //! Slices that came before, and their steps: one that comes again is looked up, and not read again.
 ghost use Rattle.std.specs.Prelude.{IfSome};
-ghost use Rattle.csicodec_overwrite.specs.{Private.Seen.AreSlices, Private.Seen.IsSlice, Stream.Reads, Stream.none_held};
+ghost use Rattle.csicodec_overwrite.specs.{Private.Seen.AreSlices, Private.Seen.IsSlice, Stream.Reads, Stream.none_in};
 
+use csicodec_clean::Sets;
 use csicodec_looks::Step;
 use std::alloc::{AllocError, Global};
 use std::mem::swap;
@@ -15,11 +16,13 @@ const LONGEST: usize = 32;
 /// A number without a pattern, by which a hash is multiplied.
 const SPREAD: u64 = 0x9e37_79b9_7f4a_7c15;
 
-/// A slice, before which and behind which nothing is open or held, and its steps.
+/// A slice, before which and behind which nothing is open or held, in which sets text is read there, and its steps.
 #[derive(Drop)]
 pub(crate) struct Slice {
+    before: Sets,
+    pub(crate) after: Sets,
     bytes: Vec<u8>,
-    steps: Vec<Step>,
+    pub(crate) steps: Vec<Step>,
 }
 
 /// A table of slices that came before. It takes no memory until one comes.
@@ -90,26 +93,32 @@ impl Seen {
         }
     }
 
-    /// The steps of a slice, if it is kept.
-    pub(crate) fn recall(&self, bytes: &[u8]) -> Option<&[Step]>
+    /// The slice of these bytes, where text is read in these sets, if it is kept.
+    pub(crate) fn recall(&self, sets: Sets, bytes: &[u8]) -> Option<&Slice>
         requires { AreSlices self.now.kept.items }
-        ensures { IfSome result (λ steps. Reads none_held bytes.now steps.now none_held) }
+        ensures { IfSome result (λ slice. Reads (none_in sets) bytes.now slice.now.steps.items (none_in slice.now.after)) }
     {
         let at = self.at(place(bytes));
         if at >= self.kept.len() {
             return None;
         }
         let slice = &self.kept[at];
-        if slice.bytes.as_slice() != bytes {
+        if slice.bytes.as_slice() != bytes || slice.before != sets {
             return None;
         }
-        Some(&slice.steps)
+        Some(slice)
     }
 
     /// Keeps a slice and its steps, unless it is long.
-    pub(crate) fn keep(&mut self, bytes: &[u8], steps: &[Step]) -> Result<(), AllocError>
+    pub(crate) fn keep(
+        &mut self,
+        before: Sets,
+        after: Sets,
+        bytes: &[u8],
+        steps: &[Step],
+    ) -> Result<(), AllocError>
         requires kept { AreSlices self.old.kept.items }
-        requires read { Reads none_held bytes.now steps.now none_held }
+        requires read { Reads (none_in before) bytes.now steps.now (none_in after) }
         ensures { AreSlices self.new.kept.items }
     {
         let place = place(bytes);
@@ -117,6 +126,8 @@ impl Seen {
             return Ok(());
         }
         let mut slice = self.take(place);
+        slice.before = before;
+        slice.after = after;
         slice.bytes.clear();
         slice.steps.clear();
         slice.bytes.extend_from_slice(bytes)?;
@@ -132,6 +143,8 @@ impl Seen {
     {
         let alloc = *self.places.allocator();
         let mut slice = Slice {
+            before: Sets::first(),
+            after: Sets::first(),
             bytes: Vec::new(alloc),
             steps: Vec::new(alloc),
         };

@@ -1,16 +1,16 @@
 //! The steps of text, of escape sequences and of actions.
-ghost use Rattle.std.specs.{Prelude.◌≡◌, Prelude.◌≤◌, Prelude.◌++◌, Prelude.◌∷◌, Prelude.[], Prelude.ℕ, Prelude.List, Prelude.length, Prelude.map, Prelude.OnOk};
-ghost use Rattle.std.specs.{Prelude.IfOk, List.flat_map, List.list_all};
+ghost use Rattle.std.specs.{Prelude.◌≡◌, Prelude.◌<◌, Prelude.◌≤◌, Prelude.◌++◌, Prelude.◌∷◌, Prelude.[], Prelude.ℕ, Prelude.List, Prelude.length, Prelude.map};
+ghost use Rattle.std.specs.{Prelude.OnOk, Prelude.IfOk, List.flat_map, List.list_all};
 ghost use Rattle.csicodec_actions.specs.Devices.{device_of};
 ghost use Rattle.csicodec_parser.specs.ActionOf.{action_of};
-ghost use Rattle.csicodec_clean.specs.Shown.{IsCut, IsRead};
+ghost use Rattle.csicodec_clean.specs.{Private.Steps.ReadsTo, Sets.in_use, Sets.shifted, Shown.IsCut, Shown.IsRead};
+ghost use Rattle.csicodec_looks.specs.{Sets.char_in, Steps.of_char, Steps.of_chars};
 ghost use Rattle.csicodec_overwrite.specs.Steps.{as_far, by_code, by_escape, is_mark, may_move, may_move_with, never_moves, of_action, of_actions, of_code, of_cursor, of_device, of_edit, of_escape, of_final, of_mode, of_run, of_terminal, stops, switched};
-ghost use Rattle.csicodec_overwrite.specs.Private.Spans.{if_some};
-ghost use Rattle.csicodec_looks.specs.Steps.{of_chars};
+ghost use Rattle.csicodec_overwrite.specs.Private.Spans.{DrawsTo, if_some};
 
 use csicodec_actions::{Cursor, DecPrivateMode, Device, Edit, Mode, TerminalMode};
 use csicodec_base::{CsiParam, DecPrivateModeCode, EraseInDisplay, EraseInLine, TerminalModeCode};
-use csicodec_clean::first_sure;
+use csicodec_clean::{Sets, first_sure};
 use csicodec_looks::{Step, WIDEST, char_step};
 use csicodec_parser::CSI;
 use csicodec_transform::keep_from;
@@ -381,19 +381,90 @@ pub(crate) fn append_run(bytes: &[u8], steps: &mut Vec<Step>) -> Result<(), Allo
     Ok(())
 }
 
-/// Appends the steps of the text, as far as it is sure; `held` are the bytes before it that aren't, and then those at its end.
-pub(crate) fn append_text(
-    held: &mut Vec<u8>,
-    bytes: &[u8],
-    steps: &mut Vec<Step>,
-) -> Result<(), AllocError>
+/// Appends the steps of bytes, as far as they are sure; `held` are the bytes before them that aren't, and then those at their end.
+fn append_bytes(held: &mut Vec<u8>, bytes: &[u8], steps: &mut Vec<Step>) -> Result<(), AllocError>
     ensures chars { OnOk result
-        ((chars : List ℕ) × IsRead (held.old.items ++ bytes.now) chars held.new.items
+        ((chars : List ℕ) × ReadsTo (held.old.items ++ bytes.now) chars held.new.items
         × (steps.new.items ≡ steps.old.items ++ of_chars chars)) }
     ensures short { OnOk result (length held.new.items ≤ 3) }
 {
     held.extend_from_slice(bytes)?;
     let sure = held.len() - append_sure(held, steps)?.len();
     keep_from(held, sure);
+    Ok(())
+}
+
+/// Appends the steps of the bytes that are held: nothing of their character follows.
+pub(crate) fn append_held(held: &mut Vec<u8>, steps: &mut Vec<Step>) -> Result<(), AllocError>
+    ensures none { OnOk result (held.new.items ≡ []) }
+    ensures steps { OnOk result (steps.new.items ≡ steps.old.items ++ of_run held.old.items) }
+{
+    if held.is_empty() {
+        return Ok(());
+    }
+    append_run(held, steps)?;
+    held.clear();
+    Ok(())
+}
+
+/// Appends the steps of a byte of ASCII, as the sets draw it.
+fn append_one(
+    held: &mut Vec<u8>,
+    sets: &mut Sets,
+    byte: u8,
+    steps: &mut Vec<Step>,
+) -> Result<(), AllocError>
+    requires { byte < 128 }
+    ensures none { OnOk result (held.new.items ≡ []) }
+    ensures sets { OnOk result (sets.new ≡ shifted sets.old byte) }
+    ensures steps { OnOk result (steps.new.items ≡ steps.old.items ++ (of_run held.old.items
+        ++ of_char (char_in (in_use sets.old) byte))) }
+{
+    append_held(held, steps)?;
+    steps.push(char_step(sets.in_use().char(char::from(byte))))?;
+    sets.shift(byte);
+    Ok(())
+}
+
+/// Appends the steps of some bytes of text in front, as the sets draw them, and answers the others.
+fn append_drawn<'a>(
+    held: &mut Vec<u8>,
+    sets: &mut Sets,
+    bytes: &'a [u8],
+    steps: &mut Vec<Step>,
+) -> Result<&'a [u8], AllocError>
+    ensures draws { IfOk result (λ rest. DrawsTo sets.old held.old.items bytes.now rest.now
+        sets.new held.new.items steps.old.items steps.new.items) }
+    ensures less { IfOk result (λ rest. 0 < length bytes.now → length rest.now < length bytes.now) }
+    ensures short { OnOk result (length held.old.items ≤ 3 → length held.new.items ≤ 3) }
+{
+    let (front, rest) = sets.split_same(bytes);
+    if !front.is_empty() {
+        append_bytes(held, front, steps)?;
+        return Ok(rest);
+    }
+    let Some((byte, others)) = bytes.split_first() else {
+        return Ok(bytes);
+    };
+    append_one(held, sets, *byte, steps)?;
+    Ok(others)
+}
+
+/// Appends the steps of the text, as the sets draw it, as far as it is sure; `held` are the bytes before it that aren't, and then those at
+/// its end.
+pub(crate) fn append_text(
+    held: &mut Vec<u8>,
+    sets: &mut Sets,
+    bytes: &[u8],
+    steps: &mut Vec<Step>,
+) -> Result<(), AllocError>
+    ensures draws { OnOk result (DrawsTo sets.old held.old.items bytes.now []
+        sets.new held.new.items steps.old.items steps.new.items) }
+    ensures short { OnOk result (length held.old.items ≤ 3 → length held.new.items ≤ 3) }
+{
+    let mut rest = bytes;
+    while !rest.is_empty() {
+        rest = append_drawn(held, sets, rest, steps)?;
+    }
     Ok(())
 }

@@ -1,10 +1,9 @@
 -- What a character does to a screen, and each control.
-use Rattle.std.specs.Prelude.{ℕ, zero, suc, min, max, Bool, true, false, List, take, drop, set, get_or, unwrap_or, Option, Some, None, nat_le, nat_lt, ◌+◌, ◌-◌, ◌/◌, ◌==◌, ◌∷◌, ◌&&◌, [], if◌then◌else◌}
-use Rattle.csicodec_looks.specs.Cells.{narrowed}
+use Rattle.std.specs.Prelude.{ℕ, zero, suc, min, max, Bool, true, false, List, take, drop, set, unwrap_or, Option, Some, None, nat_le, nat_lt, ◌+◌, ◌-◌, ◌/◌, ◌==◌, ◌∷◌, ◌&&◌, [], if◌then◌else◌}
+use Rattle.csicodec_looks.specs.{Cells.narrowed, Sets.char_in, declared.sets.Set.Set}
 use Rattle.csicodec_screen.specs.{Cells.bare, Cells.drawn, Cells.inserted, Cells.joined_by, Rows.in_line, Rows.index, Rows.is_beside, Rows.scrolled_down}
-use Rattle.csicodec_screen.specs.{Screen.at, Screen.edge, Screen.background, declared.cell.Glyph.Glyph, declared.screen.Screen.Screen, declared.sets.Set.Set}
-use Rattle.csicodec_screen.specs.{declared.sets.Set.TheVariants.Ascii, declared.sets.Set.TheVariants.British, declared.sets.Set.TheVariants.Graphics}
-use Rattle.csicodec_screen.specs.{declared.sets.Sets.Sets, declared.sets.Slot.Slot}
+use Rattle.csicodec_screen.specs.{Screen.at, Screen.edge, Screen.background, declared.cell.Glyph.Glyph, declared.screen.Screen.Screen, declared.sets.Sets.Sets}
+use Rattle.csicodec_screen.specs.{declared.sets.Slot.Slot}
 use Rattle.unicode_width.specs.Width.{char_width}
 use Rattle.csicodec_screen.specs.declared.sets.Slot.TheVariants as slot
 
@@ -19,16 +18,6 @@ set_of sets slot.G3 = sets.g3
 -- the set that the next character comes from
 abbrev pub current : Sets → Set
 current sets = set_of sets (unwrap_or sets.single sets.left)
-
--- what `_` to `~` are in the special graphic set (DEC VT100 User Guide, table 3-9; in Unicode as xterm has them)
-abbrev pub graphics : List ℕ
-graphics = 32 ∷ 9670 ∷ 9618 ∷ 9225 ∷ 9228 ∷ 9229 ∷ 9226 ∷ 176 ∷ 177 ∷ 9252 ∷ 9227 ∷ 9496 ∷ 9488 ∷ 9484 ∷ 9492 ∷ 9532 ∷
-    9146 ∷ 9147 ∷ 9472 ∷ 9148 ∷ 9149 ∷ 9500 ∷ 9508 ∷ 9524 ∷ 9516 ∷ 9474 ∷ 8804 ∷ 8805 ∷ 960 ∷ 8800 ∷ 163 ∷ 183 ∷ []
-
-abbrev pub char_in : Set → ℕ → ℕ
-char_in Ascii c = c
-char_in Graphics c = if nat_le 95 c && nat_le c 126 then get_or graphics (c - 95) c else c
-char_in British c = if c == 35 then 163 else c
 
 -- ---- characters
 

@@ -1,11 +1,11 @@
 -- The state of a terminal's screen. Rows and columns are counted from 0.
 use Rattle.std.specs.Prelude.{ℕ, zero, suc, min, Bool, true, false, List, length, replicate, get_or, None, nat_lt, ◌+◌, ◌-◌, ◌/◌, ◌%◌, ◌==◌, ◌∷◌, ◌&&◌, ◌≡◌, ◌≤◌, ◌<◌, [], if◌then◌else◌}
 use Rattle.std.specs.List.{AllByRecursion}
+use Rattle.csicodec_looks.specs.declared.sets.Set.TheVariants.{Ascii}
 use Rattle.csicodec_names.specs.declared.color.ColorSpec.{ColorSpec}
 use Rattle.csicodec_screen.specs.{Cells.are_whole, Cells.blanks, Cells.plain_pen, declared.rows.Row.Row, declared.rows.Size.Size}
-use Rattle.csicodec_screen.specs.{declared.rows.Size.TheVariants.Single, declared.screen.Screen.Screen, declared.sets.Set.TheVariants.Ascii}
-use Rattle.csicodec_screen.specs.{declared.sets.Sets.Sets, declared.state.Margins.Margins, declared.state.Modes.Modes, declared.state.Saved.Saved}
-use Rattle.csicodec_screen.specs.{declared.state.Titles.Titles}
+use Rattle.csicodec_screen.specs.{declared.rows.Size.TheVariants.Single, declared.screen.Screen.Screen, declared.sets.Sets.Sets, declared.state.Margins.Margins}
+use Rattle.csicodec_screen.specs.{declared.state.Modes.Modes, declared.state.Saved.Saved, declared.state.Titles.Titles}
 use Rattle.csicodec_names.specs.declared.color.ColorSpec.TheVariants as color
 use Rattle.csicodec_screen.specs.declared.sets.Slot.TheVariants as slot
 

@@ -1,5 +1,6 @@
 -- A screen, step by step: each character, control, escape sequence, control sequence and string of a stream.
 use Rattle.std.specs.Prelude.{ℕ, min, Bool, true, false, List, length, map, take, drop, replicate, set, Some, None, nat_le, nat_lt, ◌+◌, ◌-◌, ◌==◌, ◌∷◌, ◌++◌, ◌&&◌, ◌||◌, [], if◌then◌else◌}
+use Rattle.csicodec_looks.specs.{Sets.set_at, declared.sets.Set.Set, declared.sets.Set.TheVariants.Ascii}
 use Rattle.csicodec_actions.specs.{Actions.Action, declared.window.Window.Window}
 use Rattle.csicodec_screen.specs.Draws.{by_number, controls, left, next_line, print, reverse_index, right, shift, stop_at}
 use Rattle.csicodec_screen.specs.{Acts.of_cursor, Acts.of_device, Acts.of_edit, Acts.of_mode, Acts.reset, Acts.restore, Acts.save, Areas.of_unknown, Cells.bare}
@@ -7,9 +8,8 @@ use Rattle.csicodec_screen.specs.{Cells.behind, Cells.blanks, Cells.cut, Cells.p
 use Rattle.csicodec_screen.specs.{Screen.blank_row, Screen.eighths, Screen.row_at, Screen.settled, Screen.whole, declared.cell.Cell.Cell}
 use Rattle.csicodec_screen.specs.{declared.cell.Cell.TheVariants.Char, declared.cell.Cell.TheVariants.Empty, declared.rows.Row.Row, declared.rows.Size.Size}
 use Rattle.csicodec_screen.specs.{declared.rows.Size.TheVariants.DoubleWidth, declared.rows.Size.TheVariants.LowerHalf, declared.rows.Size.TheVariants.Single}
-use Rattle.csicodec_screen.specs.{declared.rows.Size.TheVariants.UpperHalf, declared.screen.Screen.Screen, declared.sets.Set.Set}
-use Rattle.csicodec_screen.specs.{declared.sets.Set.TheVariants.Ascii, declared.sets.Set.TheVariants.British, declared.sets.Set.TheVariants.Graphics}
-use Rattle.csicodec_screen.specs.{declared.sets.Slot.Slot, declared.state.Titles.Titles}
+use Rattle.csicodec_screen.specs.{declared.rows.Size.TheVariants.UpperHalf, declared.screen.Screen.Screen, declared.sets.Slot.Slot}
+use Rattle.csicodec_screen.specs.{declared.state.Titles.Titles}
 use Rattle.csicodec_actions.specs.Actions as action
 use Rattle.csicodec_names.specs.declared.color.ColorSpec.TheVariants as color
 use Rattle.csicodec_actions.specs.declared.edit.Edit.TheVariants as edit
@@ -71,9 +71,9 @@ sized size s = record s { grid = set s.grid s.row (record (row_at s.row s.grid) 
 abbrev pub hashes : List (ℕ × (Screen → Screen))
 hashes = (51, sized UpperHalf) ∷ (52, sized LowerHalf) ∷ (53, sized Single) ∷ (54, sized DoubleWidth) ∷ (56, aligned) ∷ []
 
--- SCS: `0` is the special graphic set, `A` the British one; any other is taken for ASCII
+-- SCS: with another intermediate byte behind the first, a set is taken for ASCII
 abbrev pub set_named : List ℕ → ℕ → Set
-set_named [] final = if final == 48 then Graphics else if final == 65 then British else Ascii
+set_named [] final = set_at final
 set_named (b ∷ bytes) final = Ascii
 
 abbrev pub with_set : ℕ → Set → Screen → Screen

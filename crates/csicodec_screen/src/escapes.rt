@@ -7,18 +7,19 @@ use crate::cell::{Cell, Glyph};
 use crate::look::Pen;
 use crate::rows::{Size, Uniform};
 use crate::screen::Screen;
-use crate::sets::{Set, Slot};
+use crate::sets::Slot;
 use crate::state::Margins;
+use csicodec_looks::Set;
 use std::alloc::AllocError;
 
 /// The set that these bytes name.
 fn set_named(bytes: &[u8], last: u8) -> Set
     ensures { result ≡ set_named bytes.now last }
 {
-    match (bytes, last) {
-        ([], b'0') => Set::Graphics,
-        ([], b'A') => Set::British,
-        _ => Set::Ascii,
+    if bytes.is_empty() {
+        Set::named(last)
+    } else {
+        Set::Ascii
     }
 }
 

@@ -25,10 +25,11 @@ mod titles;
 
 pub use cell::{Cell, Glyph, MARKS};
 pub use cells::Cells;
+pub use csicodec_looks::Set;
 pub use flags::Flags;
 pub use kept::{Back, Links, TitleStack};
 pub use look::{Look, Pen};
 pub use rows::{Area, Row, Rows, Size};
 pub use screen::Screen;
-pub use sets::{Set, Sets, Slot};
+pub use sets::{Sets, Slot};
 pub use state::{Margins, Modes, Saved, Titles};

@@ -1,39 +1,8 @@
-//! Graphic sets, and which of them characters come from.
+//! Which graphic sets characters come from.
 ghost use Rattle.std.specs.Prelude.{◌≡◌};
-ghost use Rattle.csicodec_screen.specs.{Draws.char_in, Draws.current, Draws.set_of, Screen.first_sets};
+ghost use Rattle.csicodec_screen.specs.{Draws.current, Draws.set_of, Screen.first_sets};
 
-/// A graphic set (SCS, DEC VT100 and VT220). Any other set is taken for ASCII.
-#[derive(Clone, Copy, PartialEq, Eq, Debug)]
-pub enum Set {
-    Ascii,
-    /// The special graphic set, `0`.
-    Graphics,
-    /// The British set, `A`.
-    British,
-}
-
-/// What `_` to `~` are in the special graphic set.
-const GRAPHICS: [char; 32] = [
-    ' ', '◆', '▒', '␉', '␌', '␍', '␊', '°', '±', '␤', '␋', '┘', '┐', '┌', '└', '┼', '⎺', '⎻', '─',
-    '⎼', '⎽', '├', '┤', '┴', '┬', '│', '≤', '≥', 'π', '≠', '£', '·',
-];
-
-impl Set {
-    /// What a character of ASCII is in it.
-    pub(crate) fn char(self, char: char) -> char
-        ensures { result ≡ char_in self char }
-    {
-        match self {
-            Set::Ascii => char,
-            Set::Graphics if '_' <= char && char <= '~' => {
-                GRAPHICS[(char as usize).saturating_sub(95)]
-            }
-            Set::Graphics => char,
-            Set::British if char == '#' => '£',
-            Set::British => char,
-        }
-    }
-}
+use csicodec_looks::Set;
 
 /// A place for a graphic set (ISO/IEC 2022).
 #[derive(Clone, Copy, PartialEq, Eq, Debug)]

@@ -38,6 +38,7 @@ impl Log {
         let passing = styles.unwrap_or(Passing {
             depth: Depth::Full,
             links: false,
+            restores: true,
         });
         Log {
             each,

@@ -188,8 +188,11 @@ impl<'a> Work<'a> {
             Some("16") => Depth::Ansi,
             _ => Depth::Full,
         };
-        let links = run.links;
-        let passing = Passing { depth, links };
+        let passing = Passing {
+            depth,
+            links: run.links,
+            restores: true,
+        };
         let styles = Some(passing);
         let visible = run.has("--visible");
         if run.overwrites() {

@@ -1,5 +1,5 @@
 -- What is told of the parts of a stream, as it comes.
-use Rattle.std.specs.Prelude.{ℕ, ◌≡◌, List, [], ◌++◌}
+use Rattle.std.specs.Prelude.{ℕ, ◌≡◌, List, ◌++◌}
 use Rattle.csicodec_spans.specs.{Parts.Part, Parts.AreFirstParts, Parts.IsUnsure, declared.table.Mode.Mode}
 use Rattle.csicodec_filter.specs.Filter.{Held}
 use Rattle.csicodec_transform.specs.Transform.{GoesOn}

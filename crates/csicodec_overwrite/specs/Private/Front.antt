@@ -4,7 +4,7 @@ use Rattle.std.specs.{List.AllByRecursion}
 use Rattle.csicodec_looks.specs.{declared.look.Look.Look, Look.plain, declared.cells.Cell.Cell, Line.blank, Line.do_all, Line.line, Line.pen_behind_all}
 use Rattle.csicodec_looks.specs.{Line.most, Paint.look_of, Paint.turn, Paint.written, declared.marking.Marking.Marking, Cells.chars_of, declared.pen.Pen.Pen}
 use Rattle.csicodec_looks.specs.{declared.step.Step.Step, Plain.AreFull, Plain.closed, Plain.IsLineByte}
-use Rattle.csicodec_overwrite.specs.{declared.front.LineFront.LineFront, Stream.Reads, Stream.none_held, Turned.Sets}
+use Rattle.csicodec_overwrite.specs.{declared.front.LineFront.LineFront, Stream.Held, Stream.Reads, Turned.SetsLook}
 
 -- how the last character looks, where text of one look comes behind a character of another
 abbrev pub last_of_run : Look → Look → List ℕ → Look
@@ -28,10 +28,10 @@ drawn marking (cell ∷ cells) =
 
 -- With the pen the bytes put cells into a blank line, of which none is empty, and the text is what is written of them: the last looks as
 -- `last`, and those that come as `now`.
-pub record IsFront (marking : Marking) (pen : Pen) (bytes text : List ℕ) (last now : Look) : Type 0 where
+pub record IsFront (h : Held) (marking : Marking) (pen : Pen) (bytes text : List ℕ) (last now : Look) : Type 0 where
   pub steps : List Step
   pub cells : List Cell
-  pub reads : Reads none_held bytes steps none_held
+  pub reads : Reads h bytes steps h
   pub lines : (do_all most pen steps blank).lines ≡ []
   pub line : (do_all most pen steps blank).line ≡ line cells []
   pub pens : closed (pen_behind_all most pen steps blank) ≡ closed (record pen { look = now })
@@ -41,15 +41,15 @@ pub record IsFront (marking : Marking) (pen : Pen) (bytes text : List ℕ) (last
   pub drawn : text ≡ drawn marking cells
 
 -- the sequence in front, of so many bytes, turns characters that come and the last one alike
-abbrev pub IsTurned : Marking → LineFront → ℕ → LineFront → Type 0
-IsTurned marking old len new = Sets (take len old.rest.now) old.now new.now × (new ≡ record old { last = new.now; now = new.now })
+abbrev pub IsTurned : Held → Marking → LineFront → ℕ → LineFront → Type 0
+IsTurned h marking old len new = SetsLook h (take len old.rest.now) old.now new.now × (new ≡ record old { last = new.now; now = new.now })
 
 -- a sequence in front that sets how text looks is written, and the text behind it
-pub record IsStyled (marking : Marking) (old : LineFront) (before : List ℕ) (new : LineFront) (after : List ℕ) : Type 0 where
+pub record IsStyled (h : Held) (marking : Marking) (old : LineFront) (before : List ℕ) (new : LineFront) (after : List ℕ) : Type 0 where
   pub sequence : List ℕ
   pub run : List ℕ
   pub parts : old.rest.now ≡ sequence ++ (run ++ new.rest.now)
-  pub sets : Sets sequence old.now new.now
+  pub sets : SetsLook h sequence old.now new.now
   pub plain : AllByRecursion IsLineByte run
   pub room : new.least ≤ length new.rest.now
   pub least : new.least ≡ old.least
@@ -57,9 +57,9 @@ pub record IsStyled (marking : Marking) (old : LineFront) (before : List ℕ) (n
   pub text : after ≡ before ++ run_text marking old.last new.now run
 
 -- the bytes up to the rest are a front, and its text is appended
-abbrev pub IsWrittenTo : Marking → Pen → List ℕ → List ℕ → List ℕ → Look → Look → List ℕ → Type 0
-IsWrittenTo marking pen bytes before rest last now after = (front : List ℕ) × (text : List ℕ) × (bytes ≡ front ++ rest)
-    × IsFront marking pen front text last now × (after ≡ before ++ text)
+abbrev pub IsWrittenTo : Held → Marking → Pen → List ℕ → List ℕ → List ℕ → Look → Look → List ℕ → Type 0
+IsWrittenTo h marking pen bytes before rest last now after = (front : List ℕ) × (text : List ℕ) × (bytes ≡ front ++ rest)
+    × IsFront h marking pen front text last now × (after ≡ before ++ text)
 
-abbrev pub IsWritten : Marking → Pen → List ℕ → List ℕ → LineFront → List ℕ → Type 0
-IsWritten marking pen bytes before f after = IsWrittenTo marking pen bytes before f.rest.now f.last f.now after
+abbrev pub IsWritten : Held → Marking → Pen → List ℕ → List ℕ → LineFront → List ℕ → Type 0
+IsWritten h marking pen bytes before f after = IsWrittenTo h marking pen bytes before f.rest.now f.last f.now after

@@ -1,17 +1,18 @@
-use Rattle.std.proofs.Common.{◌≡◌, length, arith, rules}
-use Rattle.csicodec_clean.proofs.{Common.common_steps, Common.rest_is, Told.none_held}
+use Rattle.std.proofs.Common.{rules}
+use Rattle.csicodec_clean.proofs.Drawn.{none_behind, to_none, to_on}
 use Rattle.csicodec_clean.proofs.spans.append_text.Goals as goal
 
-pub returns-then-is_empty-clause-chars : goal.returns-then-is_empty-clause-chars
-returns-then-is_empty-clause-chars g c =
-    let (chars, reads, out) = c.in_ok-rest.ensures.chars in
-    let none : length c.args.held.now.items ≡ 0 = search rules in
-    (chars, none_held c.args.held.now.items c.args.bytes.now chars c.in_ok-rest.rest.now c.extend_from_slice.new.self.items none reads c.in_ok-extend_from_slice.ensures.items, out)
+pub loop-rest-init : goal.loop-rest-init
+loop-rest-init g c = record {
+  draws = to_none g.T.Rule.gives.writing c.args.sets.now c.args.held.now.items c.args.bytes.now c.args.out.now.items;
+  short = λ h. h;
+}
 
-pub returns-clause-chars : goal.returns-clause-chars
-returns-clause-chars g c =
-    let (chars, reads, out) = c.in_ok-sure.ensures.chars in
-    let rest = c.in_ok-sure.field-0.now in
-    let behind = rest_is c.deref.result.now reads.1 rest reads.2 in
-    let kept : c.keep_from.new.bytes.items ≡ rest = grind (arith, common_steps, c.keep_from.ensures, c.deref.ensures.value, c.len.ensures, behind) in
-    (chars, rw kept (rw (c.deref.ensures.value, c.in_ok-extend_from_slice-2.ensures.items) at reads), out)
+pub loop-rest-preserved : goal.loop-rest-preserved
+loop-rest-preserved g c = record {
+  draws = to_on g.T.Rule.gives.writing _ _ _ _ _ _ _ _ _ _ _ _ c.loop-rest.invariant.draws c.in_ok-rest.ensures.draws;
+  short = λ h. c.in_ok-rest.ensures.short (c.loop-rest.invariant.short h);
+}
+
+pub returns-clause-draws : goal.returns-clause-draws
+returns-clause-draws g c = none_behind g.T.Rule.gives.writing _ _ _ _ _ _ _ _ (search rules) c.loop-rest.invariant.draws

@@ -1,10 +1,10 @@
-use Rattle.csicodec_overwrite.proofs.Common.{◌≡◌, ◌∙◌, true, sym, rules, subst, arith, AreTurns, plain, same_look, Turned}
+use Rattle.csicodec_overwrite.proofs.Common.{◌≡◌, ◌∙◌, true, sym, rules, subst, arith, AreTurns, plain, same_look, Turned, none_in, refl}
 use Rattle.csicodec_overwrite.proofs.{Fronts.front_begins, Fronts.run_written, Fronts.styled_written, Stays.split_line}
 use Rattle.csicodec_overwrite.proofs.front.append_front.Goals as goal
 
 pub returns-then-behind-front-clause-written : goal.returns-then-behind-front-clause-written
 returns-then-behind-front-clause-written c =
-    rw c.plain.ensures (front_begins c.args.marking.now c.args.pen c.args.bytes.now c.args.out.now.items)
+    rw c.plain.ensures (front_begins (none_in c.args.by.now.1) c.args.by.now.0.now c.args.pen c.args.bytes.now c.args.out.now.items (refl, c.requires.ascii))
 
 pub loop-init : goal.loop-init
 loop-init c =
@@ -15,11 +15,11 @@ loop-init c =
     let (parts, lines) = split_line bytes run behind c.split_front.ensures.front c.split_front.ensures.rest in
     record {
       bare = c.requires.bare;
-      known = subst (AreTurns (Turned c.args.marking.now)) (sym c.stand.ensures) c.requires.known;
+      known = subst (AreTurns (Turned (none_in c.args.by.now.1) c.args.by.now.0.now)) (sym c.stand.ensures) c.requires.known;
       even = λ is. same_look _ _ (rw c.eq.ensures at is);
       least = c.saturating_sub.ensures;
-      written = run_written c.args.marking.now c.args.pen bytes out bytes run behind out c.append_run.new.out.items plain c.args.pen.look
-          c.append_run.new.last c.requires.over (front_begins c.args.marking.now c.args.pen bytes out) parts lines
+      written = run_written (none_in c.args.by.now.1) c.args.by.now.0.now c.args.pen bytes out (refl, c.requires.ascii) bytes run behind out c.append_run.new.out.items plain c.args.pen.look
+          c.append_run.new.last c.requires.over (front_begins (none_in c.args.by.now.1) c.args.by.now.0.now c.args.pen bytes out (refl, c.requires.ascii)) parts lines
           (omega (arith, c.if-behind-front.false, c.saturating_sub.ensures))
           (rw c.plain.ensures at c.in_ok-append_run.ensures.looks) (rw c.plain.ensures at c.in_ok-append_run.ensures.text lines);
     }
@@ -34,6 +34,6 @@ loop-preserved c =
       known = c.in_ok-append_styled.ensures.known;
       even = c.in_ok-append_styled.ensures.even;
       least = s.least ∙ kept.least;
-      written = styled_written c.args.marking.now c.args.pen c.args.bytes.now c.args.out.now.items c.loop.out.items
-          c.append_styled.new.out.items c.loop.front c.append_styled.new.front c.requires.over (s.least ∙ kept.least) kept.written s;
+      written = styled_written (none_in c.args.by.now.1) c.args.by.now.0.now c.args.pen c.args.bytes.now c.args.out.now.items (refl, c.requires.ascii)
+          c.loop.out.items c.append_styled.new.out.items c.loop.front c.append_styled.new.front c.requires.over (s.least ∙ kept.least) kept.written s;
     }

@@ -1,4 +1,4 @@
-use Rattle.csicodec_overwrite.proofs.Common.{◌≡◌, ◌++◌, ◌∙◌, ℕ, List, true, false, refl, sym, ap, subst, append_assoc, rules, arith, AreTurns, LineFront, last_of_run, Turned}
+use Rattle.csicodec_overwrite.proofs.Common.{◌≡◌, ◌++◌, ◌∙◌, ℕ, List, true, false, refl, sym, ap, subst, append_assoc, rules, arith, AreTurns, LineFront, last_of_run, Turned, none_in}
 use Rattle.csicodec_overwrite.proofs.{Fronts.run_some, Stays.split_line}
 use Rattle.csicodec_looks.proofs.Stays.{lines_plain}
 use Rattle.csicodec_overwrite.proofs.front.append_styled.Goals as goal
@@ -43,7 +43,7 @@ returns-clause-styled c = λ _.
     }
 
 pub returns-clause-known : goal.returns-clause-known
-returns-clause-known c = subst (AreTurns (Turned c.args.marking.now)) (sym c.stand.ensures) c.requires.known
+returns-clause-known c = subst (AreTurns (Turned (none_in c.args.by.now.1) c.args.by.now.0.now)) (sym c.stand.ensures) c.requires.known
 
 pub returns-clause-even : goal.returns-clause-even
 returns-clause-even c = λ some.

@@ -5,7 +5,7 @@ use Rattle.csicodec_overwrite.proofs.reader.append_steps.Given as goal
 abbrev pub invariant-loop-span : goal.invariant-loop-span
 invariant-loop-span l = record {
   parts : (front : List ℕ) × (l.bytes ≡ front ++ l.cutter.rest.now);
-  goes : GoesTo l.fn.mode l.initial.titled l.initial.held.items l.bytes l.cutter.rest.now l.cutter.mode l.titled l.held.items l.initial.steps.items l.steps.items;
+  goes : GoesTo l.fn.mode l.initial.reading l.initial.held.items l.bytes l.cutter.rest.now l.cutter.mode l.reading l.held.items l.initial.steps.items l.steps.items;
   short : length l.initial.held.items ≤ 3 → length l.held.items ≤ 3;
 }
 

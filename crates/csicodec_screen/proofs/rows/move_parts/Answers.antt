@@ -1,4 +1,4 @@
-use Rattle.std.proofs.{Common.◌∙◌, Common.length, Common.arith, lemmas.Result.on_ok_weaker}
+use Rattle.std.proofs.{Common.◌∙◌, Common.arith, lemmas.Result.on_ok_weaker}
 use Rattle.std.specs.Prelude.{replicate}
 use Rattle.csicodec_screen.specs.Lists.{moved}
 use Rattle.csicodec_screen.proofs.Parts.{within_all}

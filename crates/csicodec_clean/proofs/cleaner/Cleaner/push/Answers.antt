@@ -7,7 +7,7 @@ pub returns-in_default : goal.returns-in_default
 returns-in_default g c =
     let (same, unsure) = rw (c.self.invariant, c.in_default.is) at c.in_ok-all.ensures.all in
     let now = c.self.inside in
-    let old = state_of now.rule now.waiting.mode now.titled now.waiting.bytes now.held.items in
+    let old = state_of now.rule now.waiting.mode now.reading now.waiting.bytes now.held.items in
     rw (← c.self.view_is, same) (record {
       takes = ([], record { unsure = unsure; goes = goes_none g.R.Rule.gives longest (with_more old c.args.bytes.now) }, sym (append-nil c.args.out.now.items));
       held = λ few. few;

@@ -10,13 +10,13 @@ returns-clause-passes c =
     let blank = c.is_blank.ensures c.if-is_blank.true in
     let puts = rw c.shows_looks.ensures at (c.puts_plain.ensures c.if-puts_plain.true) in
     let (front, ends, split, plains, few) = c.in-Some.ensures in
-    rw (← c.self.view_is, bare, blank, c.take.ensures) (record {
+    rw (← c.self.view_is, blank, c.take.ensures) (record {
       front = lines;
       text = written now.marking lines;
       split = split;
-      passes = lines_pass now.marking now.pen c.args.bytes.now lines c.in-Some.rest.now puts c.in-Some.ensures;
+      passes = lines_pass now.reader bare.0 bare.1 now.marking now.pen c.args.bytes.now lines c.in-Some.rest.now puts c.in-Some.ensures;
       out = c.in_ok-append_ascii.ensures (rw ends (all_both IsPlainByte front (10 ∷ []) plains (refl, tt)));
     })
 
 pub returns-2-clause-passes : goal.returns-2-clause-passes
-returns-2-clause-passes c = none_taken c.args.self.now c.args.bytes.now c.args.out.now.items c.requires
+returns-2-clause-passes c = none_taken c.args.self.now c.args.bytes.now c.args.out.now.items c.requires.0

@@ -6,11 +6,11 @@ returns-in-Some-clause-passes c =
     let now = c.self.inside in
     let bare = rw (← c.self.view_is) at c.requires in
     let (returned, ends) = c.in-Some.ensures in
-    rw (← c.self.view_is, bare, c.in_ok-end.ensures.none, c.take.ensures) (record {
+    rw (← c.self.view_is, c.in_ok-end.ensures.none, c.take.ensures) (record {
       front = end_of returned;
       text = ended now.marking (cells_of now.line);
       split = ends;
-      passes = end_passes now.marking now.pen now.line returned;
+      passes = end_passes now.reader bare now.marking now.pen now.line returned;
       out = c.in_ok-end.ensures.text;
     })
 

@@ -9,7 +9,7 @@ returns-in_default-clause-reads c =
     let now = c.self.inside in (
       [],
       rw (← c.self.view_is, same)
-          (reads_nothing (record { mode = now.waiting.mode; titled = now.titled; bytes = now.waiting.bytes; held = now.held.items }) c.args.bytes.now (rw c.self.invariant.0 at unsure)),
+          (reads_nothing (record { mode = now.waiting.mode; reading = now.reading; bytes = now.waiting.bytes; held = now.held.items }) c.args.bytes.now (rw c.self.invariant.0 at unsure)),
       sym (append-nil c.args.steps.now.items),
     )
 
@@ -21,7 +21,7 @@ returns-clause-reads c =
     let same : c.keep.new.self.bytes ≡ rest = grind (arith, common_steps, c.keep.ensures, c.deref.ensures.value, c.len.ensures, kept) in
     let now = c.self.inside in
     rw (← c.self.view_is)
-    (reads_from (record { mode = now.waiting.mode; titled = now.titled; bytes = now.waiting.bytes; held = now.held.items })
-    (record { mode = c.keep.new.self.mode; titled = c.append_steps.new.titled; bytes = c.keep.new.self.bytes; held = c.append_steps.new.held.items })
+    (reads_from (record { mode = now.waiting.mode; reading = now.reading; bytes = now.waiting.bytes; held = now.held.items })
+    (record { mode = c.keep.new.self.mode; reading = c.append_steps.new.reading; bytes = c.keep.new.self.bytes; held = c.append_steps.new.held.items })
     c.args.bytes.now c.deref.result.now rest c.args.steps.now.items
     c.append_steps.new.steps.items (c.deref.ensures.value ∙ all) same (rw c.keep.ensures c.in_ok-rest.ensures.unsure) (rw c.keep.ensures (rw (c.mode.ensures.is, taken) at c.in_ok-rest.ensures.goes)))

@@ -1,6 +1,7 @@
 """The numbers of the header's names, which stay: include/numbers.txt has each that was given, and may only grow."""
 import os
 import re
+import shutil
 import subprocess
 import sys
 
@@ -28,16 +29,16 @@ def read(path):
 
 
 def git(*words):
-    try:
-        return subprocess.run(["git", "-C", TOP, *words], capture_output=True, encoding="utf-8")
-    except FileNotFoundError:
-        sys.exit(f"table: no git: {LIST} can't be compared with what it was")
+    return subprocess.run(["git", "-C", TOP, *words], capture_output=True, encoding="utf-8", check=False)
 
 
 def earlier():
     """The list as each commit had it."""
     if not os.path.exists(os.path.join(TOP, ".git")):
         print(f"table: no history here: the numbers are compared with {LIST} as it is")
+        return
+    if not shutil.which("git"):
+        print(f"table: no git: the numbers are compared with {LIST} as it is")
         return
     commits = git("rev-list", "--full-history", "HEAD", "--", LIST)
     if commits.returncode:

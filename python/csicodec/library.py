@@ -227,18 +227,24 @@ class TextCall:
         """What is left of a text. Most texts are short, where a call of Python costs as much as one of C, so that this doesn't use `written`."""
         held = text.encode("utf-8", "surrogatepass")
         length = len(held)
-        if length > _KEPT or not self._desks:
+        if length > _KEPT:
             return self.whole(held).decode()
-        desk = self._desks.pop()
+        try:
+            desk = self._desks.pop()
+        except IndexError:
+            return self.whole(held).decode()
         out: Optional[bytes] = self._left(held, length, desk)
         self._desks.append(desk)
         return self.whole(held).decode() if out is None else out.decode()
 
     def written(self, held: bytes) -> bytes:
         """What is left of some bytes."""
-        if len(held) > _KEPT or not self._desks:
+        if len(held) > _KEPT:
             return self.whole(held)
-        desk = self._desks.pop()
+        try:
+            desk = self._desks.pop()
+        except IndexError:
+            return self.whole(held)
         out: Optional[bytes] = self._left(held, len(held), desk)
         self._desks.append(desk)
         return self.whole(held) if out is None else out
@@ -253,6 +259,14 @@ class TextCall:
 _rooms: List[Room] = []
 
 
+def _kept_room() -> Room:
+    """Room that is kept. Another thread may take the last one between a look and a step, so there is no look."""
+    try:
+        return _rooms.pop()
+    except IndexError:
+        return Room(_KEPT)
+
+
 def refusal(answer: Any) -> Exception:
     """The exception for an answer that isn't OK."""
     if answer.status == MEMORY:
@@ -264,10 +278,7 @@ def refusal(answer: Any) -> Exception:
 
 def written(call: Callable[..., Any], size: int, *given: Any) -> Tuple[bytes, Any]:
     """What a call writes into room of so many bytes, or of more where it says that it needs more, and its answer."""
-    if size > _KEPT:
-        room = Room(size)
-    else:
-        room = _rooms.pop() if _rooms else Room(_KEPT)
+    room = Room(size) if size > _KEPT else _kept_room()
     answer = call(*given, room.at, room.length)
     if not answer.status and answer.needed > room.size:
         room = Room(answer.needed)

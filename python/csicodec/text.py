@@ -17,9 +17,17 @@ _CLEAN = {(depth, links): library.TextCall(depth, links) for depth in _DEPTHS.va
 #: What strip and clean leave as it is.
 _PLAIN = b"\t\n" + bytes(range(0x20, 0x7F))
 
+#: How many bytes of a long text one call takes.
+_PIECE = 1 << 20
+
 #: The bytes of a control sequence between ESC [ and its final byte.
 _PARAMETERS = bytes(range(0x20, 0x40))
 _SPELLINGS = {"filter": library.filter_step, "compact": library.compact_step, "semicolons": library.compact_semicolons_step}
+
+
+def _in_pieces(held: bytes, stream: "Filter | Stripper") -> bytes:
+    """What becomes of bytes, a piece at a time: Python sees a signal, as that of Ctrl-C, between two calls of C alone."""
+    return b"".join([*(stream.feed(held[at : at + _PIECE]) for at in range(0, len(held), _PIECE)), stream.finish()])
 
 
 def _is_plain_ascii(held: bytes) -> bool:
@@ -41,15 +49,19 @@ def _depth(colors: Optional[int]) -> int:
 
 
 def strip(text: AnyStr) -> AnyStr:
-    """The visible text: no control but newline and tab. Of a str a str, of bytes bytes, in which bytes that aren't UTF-8 become U+FFFD.
+    """The visible text: no control but newline and tab. A str gives a str, and bytes give bytes, in which bytes that aren't UTF-8 become U+FFFD.
 
     >>> strip("\\x1b[1mbold\\x1b]0;a title\\a and plain")
     'bold and plain'
     """
     if isinstance(text, str):
-        return text if text.rstrip("\n").isprintable() else _STRIP.text(text)
+        if text.rstrip("\n").isprintable():
+            return text
+        return _STRIP.text(text) if len(text) <= _PIECE else _in_pieces(_bytes(text), Stripper()).decode()
     held = bytes_of(text)
-    return held if _is_plain_ascii(held) else _STRIP.written(held)
+    if _is_plain_ascii(held):
+        return held
+    return _STRIP.written(held) if len(held) <= _PIECE else _in_pieces(held, Stripper())
 
 
 def clean(text: AnyStr, *, colors: Optional[int] = None, links: bool = False) -> AnyStr:
@@ -208,8 +220,8 @@ def filter(stream: AnyStr) -> AnyStr:
     >>> filter("a\\x1b[01mb")
     'a\\x1b[1mb'
     """
-    held, it = _bytes(stream), Filter()
-    return _like(stream, it.feed(held) + it.finish() if b"\x1b" in held else held)  # type: ignore[no-any-return]
+    held = _bytes(stream)
+    return _like(stream, _in_pieces(held, Filter()) if b"\x1b" in held else held)  # type: ignore[no-any-return]
 
 
 def compact(stream: AnyStr, *, semicolons: bool = False) -> AnyStr:

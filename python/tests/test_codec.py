@@ -11,9 +11,12 @@ import random
 import re
 import subprocess
 import sys
+import threading
 import unittest
+from unittest import mock
 
 import csicodec
+import csicodec.text as text_module
 from csicodec import Cleaner, ControlString, Cursor, CursorAction, FieldError, Filter, Input, InputParser, Malformed, PaletteColor, Parser, Sgr, Stripper
 from csicodec import MouseButton, MouseReport, Text, UnknownEsc, Unspecified, library
 
@@ -349,6 +352,45 @@ class Codec(unittest.TestCase):
             self.assertEqual(parser.feed(held[:cut]) + parser.feed(held[cut:]) + parser.finish(), list(csicodec.keys(held)), cut)
         within = [it if isinstance(it, bytes) else it.value for it in csicodec.keys(b"\x1b[3\n~\x1b[\x01")]
         self.assertEqual(within, [b"\x1b[3\n", "~", b"\x1b[\x01"])
+
+    def test_long_texts_in_pieces(self):
+        """Python sees a signal between two calls of C, so none of these has more than a megabyte."""
+        given = b"\x1b[1mbold \xc3\xa9\x1b[m \x1b(0q\x1b(B\n" * 150_000
+        for name, step in (("strip", "strip_step"), ("filter", "filter_step")):
+            whole, call = getattr(csicodec, name), getattr(library, step)
+            spellings = {**text_module._SPELLINGS, "filter": mock.Mock(side_effect=call)}
+            with mock.patch.object(library, step, mock.Mock(side_effect=call)) as stepped, mock.patch.object(text_module, "_SPELLINGS", spellings):
+                out = whole(given)
+                self.assertEqual(whole(given.decode()).encode(), out)
+            calls = (stepped if name == "strip" else spellings["filter"]).call_args_list
+            self.assertGreater(len(calls), 2 * len(given) >> 20)
+            self.assertLess(max(len(held) for held, in ([it for it in call.args if isinstance(it, bytes)] for call in calls)), (1 << 20) + library.LIMIT)
+        self.assertEqual(csicodec.strip(given), "bold é ─\n".encode() * 150_000)
+
+    def test_threads(self):
+        """The calls may be made from any threads at once."""
+        given = "\x1b[1mbold\x1b[m \x1b[31mred"
+        wanted = (csicodec.strip(given), csicodec.clean(given), csicodec.filter(given), csicodec.overwrite(given))
+        wrong, often = [], sys.getswitchinterval()
+
+        def calls():
+            try:
+                for _ in range(2000):
+                    if (csicodec.strip(given), csicodec.clean(given), csicodec.filter(given), csicodec.overwrite(given)) != wanted:
+                        raise ValueError("another text")
+            except Exception as error:
+                wrong.append(error)
+
+        threads = [threading.Thread(target=calls) for _ in range(8)]
+        sys.setswitchinterval(1e-6)
+        try:
+            for it in threads:
+                it.start()
+            for it in threads:
+                it.join()
+        finally:
+            sys.setswitchinterval(often)
+        self.assertEqual(wrong, [])
 
     def test_program(self):
         spans = csicodec.explain("\x1b[1mbold", only=["SGR"])

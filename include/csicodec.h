@@ -18,8 +18,8 @@
 #include "csicodec_names.h"
 
 /* The version of this header. csicodec_version() returns the library's, which must be the same number. */
-#define CSICODEC_VERSION "1.26.0"
-#define CSICODEC_VERSION_NUMBER 12600
+#define CSICODEC_VERSION "1.27.0"
+#define CSICODEC_VERSION_NUMBER 12700
 
 #ifdef __cplusplus
 extern "C" {

@@ -27,7 +27,7 @@ if TYPE_CHECKING:
     from .text import Cleaner, Filter, Stripper, clean, compact, filter, html, normalise, overwrite, strip
     from .values import Color, DefaultColor, KeyModifiers, KittyKeyboardFlags, Modifiers, PaletteColor, Token, TrueColor
 
-__version__ = "1.26.0"
+__version__ = "1.27.0"
 # fmt: off
 __all__ = [
     "Action", "Blink", "CharacterPath", "Cleaner", "CodecError", "Color", "ControlString", "Cursor", "CursorAction", "CursorStyle",

@@ -121,7 +121,7 @@ fn parts_and_names() {
     let mut out = b"a".to_vec();
     encode_to(&[CSI::from(Cursor::Up(2))], &mut out).expect("a text");
     assert_eq!(out, b"a\x1b[2A");
-    assert_eq!(csicodec_sys::version(), 12600);
+    assert_eq!(csicodec_sys::version(), 12700);
 }
 
 #[test]

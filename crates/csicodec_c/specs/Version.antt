@@ -1,5 +1,5 @@
--- The version of the library, 1.26.0.
+-- The version of the library, 1.27.0.
 use Rattle.std.specs.Prelude.{ℕ, ◌+◌, ◌*◌}
 
 abbrev pub version : ℕ
-version = 10000 * 1 + (100 * 26 + 0)
+version = 10000 * 1 + (100 * 27 + 0)

@@ -7,5 +7,5 @@ ghost use Rattle.csicodec_c.specs.Version.{version};
 pub extern "C" fn csicodec_version() -> u32
     ensures { result ≡ version }
 {
-    12600
+    12700
 }

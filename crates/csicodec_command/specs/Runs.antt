@@ -131,3 +131,12 @@ pub record IsRun {S : Type 0} (Steps : StepsOf S) (holds : List ℕ → Option (
   pub last : At S
   pub through : Through Steps holds names start failed stop last
   pub ends : Ends Steps names (first_of failed) stop last result end
+
+-- A run whose output is a file that is asked for, or else standard output; of the inputs and of the output of a host nothing is known. No input had its
+-- turn, since the file couldn't be begun; or it is a run over the inputs, with its status, or with that of the file, where the run went well and the file
+-- couldn't be put in its place.
+abbrev pub WorksThrough : {S : Type 0} → StepsOf S → List (List ℕ) → S → Result (Unit {0}) ℕ → S → Type 0
+WorksThrough {S} Steps names old result new = ((result ≡ Err (status Failure.Open)) × (new ≡ old))
+    ⊎ ((ran : Result (Unit {0}) ℕ) × (start : Option (List ℕ)) × (end : Option (List ℕ))
+    × IsRun Steps (λ _. None) names (old, start) ran (new, end)
+    × ((result ≡ ran) ⊎ ((ran ≡ Ok tt) × (result ≡ Err (status Failure.Open)))))

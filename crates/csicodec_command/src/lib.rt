@@ -12,7 +12,7 @@ mod recording;
 mod replaced;
 mod run;
 
-pub use command::{Request, Task, Wrong, nearest};
+pub use command::{Request, ScreenSize, Task, Wrong, nearest};
 pub use failure::{Failure, Found};
 pub use packed::Packing;
 pub use recorded::Recorded;

@@ -4,13 +4,14 @@
 use crate::command::Task;
 
 /// The words that say what is to be done.
-pub(crate) static WORDS: [&str; 10] = [
+pub(crate) static WORDS: [&str; 11] = [
     "filter",
     "compact",
     "strip",
     "clean",
     "check",
     "html",
+    "screen",
     "explain",
     "assemble",
     "cuts",
@@ -18,13 +19,14 @@ pub(crate) static WORDS: [&str; 10] = [
 ];
 
 /// What each of these words asks for, and what `--help` behind it says.
-pub(crate) static TASKS: [(&str, Task, &str); 10] = [
+pub(crate) static TASKS: [(&str, Task, &str); 11] = [
     ("filter", Task::Filter, FILTER),
     ("compact", Task::Compact, COMPACT),
     ("strip", Task::Strip, STRIP),
     ("clean", Task::Clean, CLEAN),
     ("check", Task::Check, CHECK),
     ("html", Task::Html, HTML),
+    ("screen", Task::Screen, SCREEN),
     ("explain", Task::Explain, EXPLAIN),
     ("assemble", Task::Assemble, ASSEMBLE),
     ("cuts", Task::Cuts, CUTS),
@@ -32,13 +34,14 @@ pub(crate) static TASKS: [(&str, Task, &str); 10] = [
 ];
 
 /// The options, each as it stands in a command line. Behind a blank stand the words that have it, unless all have, and behind a
-/// colon which values it has, if it has one.
-pub(crate) static OPTIONS: [&str; 38] = [
+/// colon which values it has, if it has one. One that has a value with some words, and none with others, has a row for each.
+pub(crate) static OPTIONS: [&str; 42] = [
     "--all check and strip",
     "--at explain: offsets such as 120, 120-180 or 120-, separated by commas",
     "--check strip and clean: visible",
     "--classes html",
     "--color explain: always, never or auto",
+    "--color screen",
     "--colors clean: 256 or 16",
     "--count explain",
     "--decode explain",
@@ -62,7 +65,10 @@ pub(crate) static OPTIONS: [&str; 38] = [
     "--overwrite strip, clean and html",
     "--palette html: xterm, or 16 or 18 colours as #rrggbb, separated by commas",
     "--quiet explain",
+    "--raw screen",
+    "--scrollback screen",
     "--semicolons compact",
+    "--size screen: columns and rows such as 80x24, 1 to 1000 of each",
     "--stats explain",
     "--style html: a file with a style sheet, or none",
     "--text filter, compact, strip and clean",
@@ -95,6 +101,7 @@ usage: csicodec filter [OPTION ..] [FILE ..]    write a stream with its control 
        csicodec clean [OPTION ..] [FILE ..]     write the text of a stream with its colours and styles
        csicodec check [OPTION ..] [FILE ..]     say whether a stream is plain text, and where it isn't
        csicodec html [OPTION ..] [FILE ..]      write an HTML page of the text with its colours and styles
+       csicodec screen [OPTION ..] [FILE ..]    write what a terminal shows behind a stream
        csicodec explain [OPTION ..] [FILE ..]   say in words what is in a stream
        csicodec assemble [FILE ..]              turn what explain --json wrote back into a stream
        csicodec cuts [OPTION ..] [FILE ..]      say where a stream may be cut into pieces
@@ -286,6 +293,30 @@ ends in .cast, and standard input if it begins like one.
                      order of the text, as an escape with its number.
   -h, --help         Show this text.";
 
+/// How `screen` is used.
+pub const SCREEN: &str = "\
+usage: csicodec screen [OPTION ..] [FILE ..]
+
+Write what a terminal shows behind each FILE, a line for each row. Blanks at the
+ends of rows and empty rows at the bottom are left out. Each FILE begins with a
+new screen.
+
+With no FILE, or when FILE is -, read standard input. From an asciinema
+recording, the screen shows what the programs wrote. A FILE is one if its name
+ends in .cast, and standard input if it begins like one.
+
+  --color        Keep the colours and styles, as clean writes them.
+  -o, --output OUT  Write to the file OUT. If OUT exists, it is replaced at the
+                 end, and only if nothing failed.
+  --raw          Take newlines as they came, as in what script recorded.
+                 Otherwise each also goes to the first column, as it does where
+                 a program writes to a terminal.
+  --scrollback   Write the rows that left at the top first, the last 10,000 of
+                 them.
+  --size SIZE    The columns and rows of the terminal, such as 132x43. Each is
+                 from 1 to 1000. The default is 80x24.
+  -h, --help     Show this text.";
+
 /// How `explain` is used.
 pub const EXPLAIN: &str = "\
 usage: csicodec explain [OPTION ..] [FILE ..]
@@ -394,4 +425,4 @@ does the same, unless standard input is a terminal.
   -h, --help     Show this text.";
 
 /// The program's name and version.
-pub const VERSION: &str = "csicodec 1.26.0";
+pub const VERSION: &str = "csicodec 1.27.0";

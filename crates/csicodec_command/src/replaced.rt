@@ -1,5 +1,8 @@
 //! A file that is the output of a run: what is written lies beside it until the run has ended well, and then takes its place.
 
+ghost use Rattle.std.specs.Prelude.{◌≡◌, ◌⊎◌, Err, IfErr, Ok, OnOk};
+ghost use Rattle.csicodec_command.specs.Failure.{status};
+
 use crate::failure::Failure;
 use crate::run::failed;
 use std::alloc::AllocError;
@@ -90,12 +93,20 @@ fn begun<'a>(rt: &HostRuntime, path: &'a str) -> io::Result<(Sink, Replaced<'a>)
 
 impl<'a> Replaced<'a> {
     /// Begins to write this file; the status, if that failed.
-    pub(crate) fn new(rt: &HostRuntime, path: &'a str) -> Result<(Sink, Replaced<'a>), u8> {
-        begun(rt, path).map_err(|error| failed(rt, Failure::Open, path, Some(error)))
+    pub(crate) fn new(rt: &HostRuntime, path: &'a str) -> Result<(Sink, Replaced<'a>), u8>
+        ensures { IfErr result (λ n. n ≡ status Failure.Open) }
+    {
+        match begun(rt, path) {
+            Ok(begun) => Ok(begun),
+            Err(error) => Err(failed(rt, Failure::Open, path, Some(error))),
+        }
     }
 
     /// Puts what was written in the file's place, or drops it where the run failed; the status of what failed.
-    pub(crate) fn end(self, rt: &HostRuntime, done: Result<(), u8>) -> Result<(), u8> {
+    pub(crate) fn end(self, rt: &HostRuntime, done: Result<(), u8>) -> Result<(), u8>
+        ensures failed { IfErr done (λ n. result ≡ Err n) }
+        ensures done { OnOk done ((result ≡ Ok tt) ⊎ (result ≡ Err (status Failure.Open))) }
+    {
         let Some(beside) = &self.beside else {
             return done;
         };

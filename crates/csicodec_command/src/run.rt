@@ -1,6 +1,6 @@
 //! A run of a program: its words, its inputs one after the other, and what it tells of what failed.
 ghost use Rattle.csicodec_command.specs.Common.{[], ℕ, List, Option, None, Some, true, map, eqb, codes, IfErr, IfOk, ends_with, Consumes, RunError};
-ghost use Rattle.csicodec_command.specs.Runs.{Asked, Closes, GoesOf, HasTurn, IsReadBy, IsRun, IsStopped, IsTold, MayBeRecording, StepsOf, Through, failure_of, first_of, names_of};
+ghost use Rattle.csicodec_command.specs.Runs.{Asked, Closes, GoesOf, HasTurn, IsReadBy, IsRun, IsStopped, IsTold, MayBeRecording, StepsOf, Through, WorksThrough, failure_of, first_of, names_of};
 ghost use Rattle.csicodec_command.specs.{Failure.status, declared.failure.Failure.TheVariants.Run as Ran};
 ghost use Rattle.std.specs.Prelude.{◌≡◌, ◌⊎◌, ◌∷◌};
 
@@ -537,7 +537,10 @@ fn write_through<T: Worker>(
     work: &mut T,
     run: &Request<'_>,
     sink: Sink,
-) -> Result<(), u8> {
+) -> Result<(), u8>
+    ensures { (start : Option (List ℕ)) × (end : Option (List ℕ))
+        × IsRun T.steps (λ _. None) (names_of run.now.files.items) (work.old, start) result (work.new, end) }
+{
     let mut output = Output::new(sink);
     run_through(rt, rt, work, &run.files, &mut output)?;
     if matches!(run.task, Task::Html) && output.len > LARGE {
@@ -551,11 +554,9 @@ fn write_through<T: Worker>(
 
 /// Works on the files of a run, or on standard input, and writes standard output, or a file that is asked for: that is replaced if the
 /// run went well.
-pub fn work_through<T: Worker>(
-    rt: &HostRuntime,
-    work: &mut T,
-    run: &Request<'_>,
-) -> Result<(), u8> {
+pub fn work_through<T: Worker>(rt: &HostRuntime, work: &mut T, run: &Request<'_>) -> Result<(), u8>
+    ensures { WorksThrough T.steps (names_of run.now.files.items) work.old result work.new }
+{
     if run.files.is_empty() {
         say_waits(rt);
     }

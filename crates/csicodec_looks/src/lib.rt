@@ -31,6 +31,7 @@ pub mod xterm;
 
 pub use ascii::{InLine, behind_end, odd_len, split_lines, style_len};
 pub use bytes::{ByteClass, LANES, PlainAscii, behind, first_set, split_front};
+pub use cells::{Cell, Glyph};
 pub use given::{given_color, given_palette};
 pub use look::Look;
 pub use marking::Marking;

@@ -318,11 +318,7 @@ fn append_same_look<'a>(
 }
 
 /// Appends cells, as lines are written: at the end nothing is set.
-pub(crate) fn append_cells(
-    cells: &[Cell],
-    marking: &Marking,
-    out: &mut Vec<u8>,
-) -> Result<(), AllocError>
+pub fn append_cells(cells: &[Cell], marking: &Marking, out: &mut Vec<u8>) -> Result<(), AllocError>
     ensures { OnOk result (out.new.items ≡ out.old.items ++ text_of marking.now cells.now) }
 {
     if !marking.shows_looks() {

@@ -1,9 +1,12 @@
 -- The front of a line that is written as it comes, and its end.
-use Rattle.csicodec_overwrite.proofs.Common.{◌≡◌, ◌≤◌, ◌+◌, ◌-◌, ◌*◌, ℕ, zero, suc, Bool, true, false, cond, List, [], ◌∷◌, ◌++◌, length, length-append, replicate, refl, sym, ap, subst, ◌∙◌, append_assoc, append-nil, arith, ◌/◌, ◌==◌, unwrap_or, eqb-true, nat_tests, AllByRecursion, IsPlainByte, is_shown, Look, plain, Cell, Marking, Behind, Char, Glyph, Line, Page, Plain, Styled, Pen, Step, Done, before, behind_columns, blank, cells_of, do_all, does, done, line, pen_behind, pen_behind_all, put, IsFront, IsStyled, IsWritten, IsWrittenTo, drawn, last_look, last_of_run, run_text, AreFull, AreLines, IsLineByte, PutsPlain, closed, end_of, LineFront, Now, Passes, Reads, Held, IsAscii, IsBare, Ascii, in_use, AreLooks, IsLook, SetsLook, of_chars, most, columns, glyph, narrowed, onto, to_tab_stop, width, ended, paint, shows_looks, text_of, texts_of, turn, written}
-use Rattle.csicodec_overwrite.proofs.{Stays.reads_end, Stays.reads_plain, Read.reads_none, Read.reads_on, Written.all_on, Written.passes_on, Written.pen_on}
-use Rattle.csicodec_looks.proofs.Stays.{few_cells, line_plain, lines_plain, narrow, cells, cells_full, cells_length, full_trimmed, put_cells, puts}
+use Rattle.csicodec_overwrite.proofs.Common.{◌≡◌, ◌≤◌, ◌+◌, ◌-◌, ◌*◌, ℕ, zero, suc, Bool, true, false, List, [], ◌∷◌, ◌++◌, length, length-append, replicate, refl, sym, ap, subst, ◌∙◌, append_assoc, append-nil, arith, ◌/◌, ◌==◌, eqb-true, encode_utf8_all, AllByRecursion, IsPlainByte, Look, plain, Cell, Marking, Behind, Char, Glyph, Line, Page, Plain, Styled, Pen, Step, Done, before, behind_columns, blank, cells_of, do_all, does, done, line, pen_behind, pen_behind_all, put, IsFront, IsStyled, IsWritten, IsWrittenTo, drawn, last_look, last_of_run, run_text, AreFull, AreLines, IsLineByte, PutsPlain, closed, end_of, LineFront, Now, Passes, Reads, Held, IsAscii, IsBare, Ascii, in_use, AreLooks, IsLook, SetsLook, of_chars, most, columns, glyph, onto, width, ended, paint, shows_looks, text_of, texts_of, turn, written}
+use Rattle.csicodec_overwrite.proofs.{LineTexts.line_text, LineTexts.no_newline, Stays.reads_end, Stays.reads_line, Read.reads_none, Read.reads_on}
+use Rattle.csicodec_overwrite.proofs.{Written.all_on, Written.passes_on, Written.pen_on}
+use Rattle.csicodec_overwrite.specs.Private.Front.{IsLed, IsLineChar, IsLineText}
+use Rattle.csicodec_looks.proofs.Stays.{few_cells, cells, cells_full, cells_length, full_trimmed, put_cells, puts}
 use Rattle.csicodec_looks.proofs.{Texts.blank_written, Texts.turn_same, Texts.written_none, Texts.written_on, Texts.text_painted, Rows.standing_settled}
-use Rattle.unicode_width.specs.Width.{char_width}
+use Rattle.std.specs.Prelude.{⊤}
+use Rattle.std.proofs.lemmas.Str.{length-le-encodes}
 use Rattle.csicodec_tokens.proofs.Walks.{All-push}
 
 -- ---- what is written of cells
@@ -17,7 +20,7 @@ all_drawn : (marking : Marking) (left : List Cell)
     → text_of marking (onto left []) ≡ drawn marking left ++ turn marking (last_look left) plain
 all_drawn marking left = text_painted marking (onto left []) ∙ painted_drawn marking left []
 
--- the cells of a character that takes columns
+-- the cells of a character
 module _ (marking : Marking) (g : Glyph) (left : List Cell) where
   char_look : (w : ℕ) → last_look (replicate w Behind ++ Char g ∷ left) ≡ g.look
   char_look zero = refl
@@ -28,22 +31,43 @@ module _ (marking : Marking) (g : Glyph) (left : List Cell) where
   char_drawn zero = refl
   char_drawn (suc w) = rw (turn_same marking (last_look (replicate w Behind ++ Char g ∷ left)), written_none marking, append-nil) (char_drawn w)
 
--- ---- text of ASCII
+  -- one that takes no column looks as what is before it
+  cells_look : (w : ℕ) → (w ≡ 0 → last_look left ≡ g.look) → last_look (cells g w left) ≡ g.look
+  cells_look zero same = same refl
+  cells_look (suc w) same = char_look w
 
-wide : (c column : ℕ) → IsLineByte c → (w : ℕ) × (width c column ≡ suc w)
-wide c column h = by (c == 9) refl
-  where
-    by : (t : Bool) → (c == 9) ≡ t → (w : ℕ) × (width c column ≡ suc w)
-    by true e = (to_tab_stop column - 1, ap (λ (t : Bool). cond t (to_tab_stop column) (narrowed (unwrap_or (char_width false c) 0))) e ∙ omega arith)
-    by false e = (0, narrow c column (grind (arith, nat_tests)) (grind (arith, nat_tests)))
+  cells_drawn : (w : ℕ) → (w ≡ 0 → last_look left ≡ g.look) → drawn marking (cells g w left) ≡ drawn marking left
+      ++ (turn marking (last_look left) g.look ++ written marking (g.char ∷ []))
+  cells_drawn zero same = ap (λ (l : Look). drawn marking left ++ (turn marking (last_look left) l ++ written marking (g.char ∷ []))) (same refl)
+  cells_drawn (suc w) same = char_drawn w
 
-pub run_nothing : (marking : Marking) (last now : Look) (cs old : List ℕ) → (length cs == 0) ≡ true → old ≡ old ++ run_text marking last now cs
-run_nothing marking last now [] old none = rw (turn_same marking last, written_none marking, append-nil) refl
-run_nothing marking last now (c ∷ cs) old none = absurd (omega (arith, eqb-true (length (c ∷ cs)) 0 none))
+-- ---- text
 
-pub run_some : (last now : Look) (cs : List ℕ) → (length cs == 0) ≡ false → last_of_run last now cs ≡ now
-run_some last now [] some = cc
-run_some last now (c ∷ cs) some = refl
+pub run_nothing : (marking : Marking) (last now : Look) (cs run old : List ℕ) → run ≡ encode_utf8_all cs → (length run == 0) ≡ true → old ≡ old ++ run_text marking last now cs
+run_nothing marking last now [] run old own none = rw (turn_same marking last, written_none marking, append-nil) refl
+run_nothing marking last now (c ∷ cs) run old own none = absurd (omega (arith, eqb-true (length run) 0 none, ap length own, length-le-encodes (c ∷ cs)))
+
+pub run_some : (last now : Look) (cs run : List ℕ) → run ≡ encode_utf8_all cs → (length run == 0) ≡ false → last_of_run last now cs ≡ now
+run_some last now [] run own some = let none : true ≡ false = sym (ap (λ (t : List ℕ). length t == 0) own) ∙ some in cc
+run_some last now (c ∷ cs) run own some = refl
+
+pub run_last : (last now : Look) (cs run : List ℕ) → run ≡ encode_utf8_all cs → last_of_run last now run ≡ last_of_run last now cs
+run_last last now [] run own = ap (last_of_run last now) own
+run_last last now (c ∷ cs) [] own = absurd (omega (arith, ap length own, length-le-encodes (c ∷ cs)))
+run_last last now (c ∷ cs) (b ∷ run) own = refl
+
+-- where the first of them takes no column, they look as what is before them
+abbrev Follows : Look → Look → List ℕ → Type 0
+Follows last now [] = ⊤
+Follows last now (c ∷ cs) = (column : ℕ) → width c column ≡ 0 → last ≡ now
+
+follows_same : (last now : Look) (cs : List ℕ) → last ≡ now → Follows last now cs
+follows_same last now [] same = tt
+follows_same last now (c ∷ cs) same = λ column none. same
+
+follows_led : (last now : Look) (cs : List ℕ) → IsLed cs → Follows last now cs
+follows_led last now [] led = tt
+follows_led last now (c ∷ cs) led = λ column none. absurd (omega (arith, led column, none))
 
 -- behind some cells, a run of it
 record Runs (limit : ℕ) (marking : Marking) (pen : Pen) (cs : List ℕ) (left : List Cell) : Type 0 where
@@ -63,9 +87,9 @@ run_look l (c ∷ cs) = refl
 run_same : (marking : Marking) (l : Look) (cs : List ℕ) → run_text marking l l cs ≡ written marking cs
 run_same marking l cs = ap (λ (x : Look). turn marking l x ++ written marking cs) (run_look l cs) ∙ ap (λ (t : List ℕ). t ++ written marking cs) (turn_same marking l)
 
-runs : (limit : ℕ) (marking : Marking) (pen : Pen) (cs : List ℕ) (left : List Cell) → pen.inserts ≡ false → AllByRecursion IsLineByte cs
-    → AreFull left → length left + 8 * length cs ≤ limit → Runs limit marking pen cs left
-runs limit marking pen [] left over h full few = record {
+runs : (limit : ℕ) (marking : Marking) (pen : Pen) (cs : List ℕ) (left : List Cell) → pen.inserts ≡ false → AllByRecursion IsLineChar cs
+    → Follows (last_look left) pen.look cs → AreFull left → length left + 8 * length cs ≤ limit → Runs limit marking pen cs left
+runs limit marking pen [] left over h follows full few = record {
   more = left;
   full = full;
   few = omega arith;
@@ -75,20 +99,22 @@ runs limit marking pen [] left over h full few = record {
   look = refl;
   text = rw (turn_same marking (last_look left), written_none marking, append-nil) refl;
 }
-runs limit marking pen (c ∷ cs) left over h full few =
-    let byte : IsLineByte c = h.0 in
-    let (s, of, kept, is_put) = puts pen c (is_shown c (line_plain c byte)) (grind (arith, nat_tests)) in
-    let (w, is) = wide c (columns left) h.0 in
+runs limit marking pen (c ∷ cs) left over h follows full few =
+    let (shown, inside) = no_newline c h.0 in
+    let (s, of, kept, is_put) = puts pen c shown inside in
     let g = glyph c pen.look in
-    let next = cells g (suc w) left in
+    let w = width c (columns left) in
+    let next = cells g w left in
     let then = pen_behind pen s (columns left) in
     let look : then.look ≡ pen.look = ap (λ (p : Pen). p.look) (kept (columns left)) in
-    let longer : length next ≤ length left + 8 = omega (arith, cells_length g (suc w) left, few_cells c (columns left), is) in
+    let same : last_look next ≡ pen.look = cells_look marking g left w (follows (columns left)) in
+    let told = cells_drawn marking g left w (follows (columns left)) in
+    let longer : length next ≤ length left + 8 = omega (arith, cells_length g w left, few_cells c (columns left)) in
     let one : does limit pen s (line left []) ≡ done [] (line next []) =
     is_put limit left ∙ ap (λ (b : Bool). put limit b g (line left [])) over
-    ∙ put_cells limit g left (omega (arith, few_cells c (columns left), few)) ∙ ap (λ (n : ℕ). done [] (line (cells g n left) [])) is in
-    let r = runs limit marking then cs next (ap (λ (p : Pen). p.inserts) (kept (columns left)) ∙ over) h.1 (cells_full g (suc w) left full)
-    (omega (arith, longer, few)) in
+    ∙ put_cells limit g left (omega (arith, few_cells c (columns left), few)) in
+    let r = runs limit marking then cs next (ap (λ (p : Pen). p.inserts) (kept (columns left)) ∙ over) h.1
+    (follows_same (last_look next) then.look cs (same ∙ sym look)) (cells_full g w left full) (omega (arith, longer, few)) in
     record {
       more = r.more;
       full = r.full;
@@ -96,8 +122,8 @@ runs limit marking pen (c ∷ cs) left over h full few =
       lines = rw of (ap (λ (d : Done). (before d.lines (do_all limit then (of_chars cs) d.line)).lines) one ∙ r.lines);
       line = rw of (ap (λ (d : Done). (before d.lines (do_all limit then (of_chars cs) d.line)).line) one ∙ r.line);
       pens = rw of (ap (λ (d : Done). closed (pen_behind_all limit then (of_chars cs) d.line)) one ∙ r.pens ∙ kept (columns left));
-      look = r.look ∙ rw (char_look marking g left w, look) (run_look pen.look cs);
-      text = r.text ∙ rw (char_look marking g left w, look, run_same marking pen.look cs, char_drawn marking g left w, written_on marking (c ∷ []) cs) (simp append_assoc);
+      look = r.look ∙ rw (same, look) (run_look pen.look cs);
+      text = r.text ∙ rw (same, look, run_same marking pen.look cs, told, written_on marking (c ∷ []) cs) (simp append_assoc);
     }
 
 -- ---- sequences that set how it looks
@@ -167,14 +193,14 @@ module _ (h : Held) (marking : Marking) (pen : Pen) (bytes text : List ℕ) (las
   look_is : then.look ≡ now
   look_is = ap (λ (p : Pen). p.look) f.pens
 
-  run_on : (run : List ℕ) → pen.inserts ≡ false → AllByRecursion IsLineByte run → 8 * length (bytes ++ run) ≤ most
-      → IsFront h marking pen (bytes ++ run) (text ++ run_text marking last now run) (last_of_run last now run) now
-  run_on run over line few =
-      let plains = lines_plain run line in
-      let r = runs most marking then run f.cells (ap (λ (p : Pen). p.inserts) f.pens ∙ over) line f.full
-      (omega (arith, few, f.few, length-append bytes run)) in
-      on run (of_chars run) r.more (text ++ run_text marking last now run) (last_of_run last now run) now (reads_plain h run ascii plains) r.lines
-      r.line (r.pens ∙ f.pens) r.full r.few (rw (f.looks, r.look, look_is) refl) (rw (f.drawn, f.looks, r.text, look_is) refl)
+  run_on : (run cs : List ℕ) → pen.inserts ≡ false → IsLineText run cs → 8 * length (bytes ++ run) ≤ most
+      → IsFront h marking pen (bytes ++ run) (text ++ run_text marking last now cs) (last_of_run last now cs) now
+  run_on run cs over (valid, chars, own, led) few =
+      let short : length cs ≤ length run = omega (arith, length-le-encodes cs, ap length own) in
+      let r = runs most marking then cs f.cells (ap (λ (p : Pen). p.inserts) f.pens ∙ over) chars (follows_led (last_look f.cells) then.look cs led) f.full
+      (omega (arith, few, f.few, short, length-append bytes run)) in
+      on run (of_chars cs) r.more (text ++ run_text marking last now cs) (last_of_run last now cs) now (reads_line h run cs ascii (valid, chars, own, led)) r.lines
+      r.line (r.pens ∙ f.pens) r.full (omega (arith, r.few, short)) (rw (f.looks, r.look, look_is) refl) (rw (f.drawn, f.looks, r.text, look_is) refl)
 
   sets_on : (sequence : List ℕ) (after : Look) → SetsLook h sequence now after → IsFront h marking pen (bytes ++ sequence) text last after
   sets_on sequence after (steps, reads, looks) =
@@ -188,16 +214,16 @@ module _ (h : Held) (marking : Marking) (pen : Pen) (bytes before : List ℕ) (a
   front_begins = ([], [], refl, front_none h marking pen ascii.0, sym (append-nil before))
 
   -- the text in front of the rest
-  pub run_written : (rest run behind mid after : List ℕ) (last now next : Look) → pen.inserts ≡ false → IsWrittenTo h marking pen bytes before rest last now mid
-      → rest ≡ run ++ behind → AllByRecursion IsLineByte run → length bytes - length behind ≤ most / 8
-      → next ≡ last_of_run last now run → after ≡ mid ++ run_text marking last now run → IsWrittenTo h marking pen bytes before behind next now after
-  run_written rest run behind mid after last now next over (front, text, split, f, out) parts plain few look longer =
-      let told = run_text marking last now run in
+  pub run_written : (rest run cs behind mid after : List ℕ) (last now next : Look) → pen.inserts ≡ false → IsWrittenTo h marking pen bytes before rest last now mid
+      → rest ≡ run ++ behind → IsLineText run cs → length bytes - length behind ≤ most / 8
+      → next ≡ last_of_run last now cs → after ≡ mid ++ run_text marking last now cs → IsWrittenTo h marking pen bytes before behind next now after
+  run_written rest run cs behind mid after last now next over (front, text, split, f, out) parts plain few look longer =
+      let told = run_text marking last now cs in
       let whole : bytes ≡ (front ++ run) ++ behind = split ∙ ap (λ (t : List ℕ). front ++ t) parts ∙ sym (append_assoc front run behind) in (
         front ++ run,
         text ++ told,
         whole,
-        rw look (run_on h marking pen front text last now ascii f run over plain (omega (arith, few, ap length whole, length-append (front ++ run) behind))),
+        rw look (run_on h marking pen front text last now ascii f run cs over plain (omega (arith, few, ap length whole, length-append (front ++ run) behind))),
         longer ∙ ap (λ (t : List ℕ). t ++ told) out ∙ append_assoc before text told,
       )
 
@@ -205,13 +231,13 @@ module _ (h : Held) (marking : Marking) (pen : Pen) (bytes before : List ℕ) (a
   pub styled_written : (mid after : List ℕ) (old new : LineFront) → pen.inserts ≡ false → new.least ≡ length bytes - most / 8
       → IsWritten h marking pen bytes before old mid → IsStyled h marking old mid new after → IsWritten h marking pen bytes before new after
   styled_written mid after old new over least (front, told, split, f, out) s =
-      run_written (s.run ++ new.rest.now) s.run new.rest.now mid after old.last new.now new.last over (
+      run_written (s.text ++ new.rest.now) s.text s.run new.rest.now mid after old.last new.now new.last over (
         front ++ s.sequence,
         told,
-        split ∙ ap (λ (t : List ℕ). front ++ t) s.parts ∙ sym (append_assoc front s.sequence (s.run ++ new.rest.now)),
+        split ∙ ap (λ (t : List ℕ). front ++ t) s.parts ∙ sym (append_assoc front s.sequence (s.text ++ new.rest.now)),
         sets_on h marking pen front told old.last old.now ascii f s.sequence new.now s.sets,
         out,
-      ) refl s.plain (omega (arith, least, s.room)) s.looks s.text
+      ) refl s.plain (omega (arith, least, s.room)) s.looks s.longer
 
 -- ---- the end of the line
 
@@ -285,7 +311,7 @@ module _ (o : Held) (bare : IsBare o) where
     stands marking pen run (over, look) h few =
         subst (λ (t : List ℕ). Passes (ready o marking pen blank) (run ++ 10 ∷ []) t (ready o marking (closed pen) blank)) (plain_text marking pen.look run look)
         (line_passes marking pen run (run_text marking plain pen.look run) (last_of_run plain pen.look run) pen.look
-        false (run_on o marking pen [] [] plain pen.look ascii (front_none o marking pen bare) run over h few))
+        false (run_on o marking pen [] [] plain pen.look ascii (front_none o marking pen bare) run run over (line_text run h) few))
 
     stand : (marking : Marking) (pen : Pen) (run front : List ℕ) → PutsPlain (shows_looks marking) pen → AllByRecursion IsLineByte run → AllByRecursion IsPlainByte front
         → 8 * length (run ++ front) ≤ most → Stand marking pen (run ++ (front ++ 10 ∷ []))

@@ -5,6 +5,7 @@ pub mod Kept
 pub mod Written
 pub mod Same
 pub mod Lost
+pub mod LineTexts
 pub mod Stays
 pub mod Fronts
 pub mod Alike

@@ -1,6 +1,7 @@
 -- Plain text of which each line has room stays as it is: it is read as its characters.
 use Rattle.csicodec_overwrite.proofs.Common.{◌≡◌, ℕ, ◌+◌, Bool, true, false, List, [], ◌∷◌, ◌++◌, refl, sym, ap, subst, ◌∙◌, append_assoc, append-nil, arith, drop, take, take-append-drop, encode_utf8_all, AllByRecursion, singles, prefix_len, all_scalars, lossy_chars, Part, none_unsure, longest, IsPlain, IsPlainByte, front_in, single_texts, all_text, Plain, HasRoom, before, blank, do_all, fresh, IsLineByte, end_of, line_byte, of_chars, of_run, AreOfParts, Overwrites, most, Reads, none_held, none_in, Held, IsAscii, IsBare, cond_both, nat_lt, nat_tests, ◌≢◌, Reading, Sets, Ascii, as_read, read_behind, in_use, part, read_more, encoded}
-use Rattle.csicodec_overwrite.proofs.{Read.bare_first, Read.chars_on, Read.run_none, Read.whole_reads, Written.one_text, Same.not_titled}
+use Rattle.csicodec_overwrite.proofs.{LineTexts.chars_shown, Read.bare_first, Read.chars_on, Read.run_none, Read.whole_reads, Written.one_text, Same.not_titled}
+use Rattle.csicodec_overwrite.specs.Private.Front.{IsLineText}
 use Rattle.csicodec_looks.proofs.{Texts.shown_plain, Stays.stays}
 use Rattle.std.specs.Char.{encode_utf8}
 use Rattle.bstr.proofs.lemmas.LossyLemmas.{lossy_chars-front}
@@ -82,6 +83,9 @@ reads_text h text cs (bare, is) stills valid own = reads_same h text cs bare (st
 
 pub reads_plain : (h : Held) (text : List ℕ) → IsAscii h → AllByRecursion IsPlainByte text → Reads h text (of_chars text) h
 reads_plain h text bare plain = reads_text h text text bare (plain_still text (ascii_shown text plain)) (scalars text plain) (encoded text plain)
+
+pub reads_line : (h : Held) (text cs : List ℕ) → IsAscii h → IsLineText text cs → Reads h text (of_chars cs) h
+reads_line h text cs bare (valid, chars, own, led) = reads_text h text cs bare (plain_still text (cs, valid, chars_shown cs chars, own)) valid own
 
 pub reads_end : (h : Held) (returned : Bool) → IsBare h → Reads h (end_of returned) (of_chars (end_of returned)) h
 unfolding encode_utf8

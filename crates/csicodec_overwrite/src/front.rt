@@ -1,17 +1,16 @@
-//! The front of a line that is written as it comes: text of ASCII, and sequences that do no more than to set how it looks.
-ghost use Rattle.std.specs.{Prelude.◌≡◌, Prelude.◌<◌, Prelude.◌≤◌, Prelude.◌++◌, Prelude.false, Prelude.true, Prelude.length, Prelude.IfOk, Prelude.OnOk};
-ghost use Rattle.std.specs.{List.AllByRecursion};
-ghost use Rattle.csicodec_looks.specs.{Turns.AreTurns, Paint.turn, Plain.IsLineByte, declared.sets.Set.TheVariants.Ascii};
+//! The front of a line that is written as it comes: text, and sequences that do no more than to set how it looks.
+ghost use Rattle.std.specs.{Prelude.◌≡◌, Prelude.◌<◌, Prelude.◌≤◌, Prelude.◌++◌, Prelude.ℕ, Prelude.List, Prelude.false, Prelude.true, Prelude.encode_utf8_all};
+ghost use Rattle.std.specs.{Prelude.length, Prelude.IfOk, Prelude.OnOk, List.AllByRecursion};
+ghost use Rattle.csicodec_clean.specs.{Shown.IsShown, Sets.in_use};
+ghost use Rattle.csicodec_looks.specs.{Turns.AreTurns, Paint.turn, Paint.written, declared.sets.Set.TheVariants.Ascii};
 ghost use Rattle.csicodec_overwrite.specs.{Turned.AreLooks, Turned.SetsLook, Turned.Turned, Private.Front.IsStyled, Private.Front.IsTurned, Private.Front.IsWritten};
 ghost use Rattle.csicodec_overwrite.specs.{Private.Front.last_of_run, Private.Front.run_text, Stream.none_in};
-ghost use Rattle.csicodec_clean.specs.Sets.{in_use};
 
+use crate::line_text::split_text;
 use crate::reader::Reader;
 use csicodec_clean::Sets;
-use csicodec_looks::paint::{append_ascii, append_turn};
-use csicodec_looks::{
-    InFront, InLine, Look, Marking, Pen, Step, Turning, Turns, split_front, style_len,
-};
+use csicodec_looks::paint::append_turn;
+use csicodec_looks::{InFront, Look, Marking, Pen, Step, Turning, Turns, append_text, style_len};
 use csicodec_spans::LIMIT;
 use std::alloc::AllocError;
 
@@ -95,6 +94,21 @@ pub(crate) struct LineFront<'a> {
     least: usize,
 }
 
+/// Appends text of characters that are shown.
+pub(crate) fn append_written(
+    marking: &Marking,
+    text: &[u8],
+    out: &mut Vec<u8>,
+) -> Result<(), AllocError>
+    ensures { OnOk result ((chars : List ℕ) → AllByRecursion IsShown chars → text.now ≡ encode_utf8_all chars
+        → out.new.items ≡ out.old.items ++ written marking.now chars) }
+{
+    match marking {
+        Marking::Plain | Marking::Styled => Ok(out.extend_from_slice(text)?),
+        Marking::Page(_) => append_text(text, out),
+    }
+}
+
 /// Appends text that looks as `now`, behind a character that looks as `last`, which is how the last character looks then.
 #[inline(never)]
 fn append_run(
@@ -105,15 +119,15 @@ fn append_run(
     out: &mut Vec<u8>,
 ) -> Result<(), AllocError>
     ensures looks { OnOk result (last.new ≡ last_of_run last.old now.now run.now) }
-    ensures text { OnOk result (AllByRecursion IsLineByte run.now
-        → out.new.items ≡ out.old.items ++ run_text marking.now last.old now.now run.now) }
+    ensures text { OnOk result ((chars : List ℕ) → AllByRecursion IsShown chars → run.now ≡ encode_utf8_all chars
+        → out.new.items ≡ out.old.items ++ run_text marking.now last.old now.now chars) }
 {
     if run.is_empty() {
         return Ok(());
     }
     append_turn(marking, last, now, out)?;
     *last = *now;
-    append_ascii(marking, run, out)
+    append_written(marking, run, out)
 }
 
 /// Appends the turn of the sequence in front, of `len` bytes, if that sets how characters look, and answers whether it does. One that isn't
@@ -181,7 +195,7 @@ fn append_styled<'a>(
 {
     let len = style_len(front.rest);
     let (sequence, others) = front.rest.split_at(len);
-    let (run, behind) = split_front::<InLine>(others);
+    let (run, behind) = split_text(others);
     if len == 0 || behind.len() < front.least {
         return Ok(false);
     }
@@ -190,7 +204,7 @@ fn append_styled<'a>(
             return Ok(false);
         }
         front.rest = behind;
-        append_ascii(by.0, run, out)?;
+        append_written(by.0, run, out)?;
         return Ok(true);
     }
     if !turn_bytes(reader, steps, by.1, &mut front.now, sequence)? {
@@ -203,7 +217,7 @@ fn append_styled<'a>(
     Ok(true)
 }
 
-/// Appends the front of a line that was blank, up to the first byte that is no text of ASCII, nor of a sequence that sets how it looks.
+/// Appends the front of a line that was blank, up to the first byte that is of no text, nor of a sequence that sets how it looks.
 /// A line has room for it. Where lines show that, what sequences turn is looked up in `turns`, and kept there.
 pub(crate) fn append_front<'a>(
     reader: &mut Reader,
@@ -222,7 +236,7 @@ pub(crate) fn append_front<'a>(
     ensures bare { OnOk result (reader.new ≡ none_in by.now.1) }
     ensures known { AreTurns (Turned (none_in by.now.1) by.now.0.now) turns.new.kept.items }
 {
-    let (run, behind) = split_front::<InLine>(bytes);
+    let (run, behind) = split_text(bytes);
     let mut front = LineFront {
         rest: bytes,
         last: Look::plain(),

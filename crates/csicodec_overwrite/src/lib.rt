@@ -3,6 +3,7 @@
 
 mod front;
 pub mod laws;
+mod line_text;
 mod overwriter;
 mod reader;
 mod run;

@@ -5,10 +5,10 @@ ghost use Rattle.csicodec_looks.specs.{declared.sets.Set.TheVariants.Ascii, Line
 ghost use Rattle.csicodec_overwrite.specs.{Private.Seen.PassesFront, Private.Spans.IsAscii, Private.Spans.IsBare, Stream.Ending, Stream.Passes, Stream.begun};
 ghost use Rattle.csicodec_overwrite.specs.{Stream.begun_as, Stream.none_in, Turned.Turned};
 
-use crate::front::{Turner, append_front};
+use crate::front::{Turner, append_front, append_written};
 use crate::reader::Reader;
 use csicodec_clean::Sets;
-use csicodec_looks::paint::{append_ascii, append_turn};
+use csicodec_looks::paint::append_turn;
 use csicodec_looks::{
     InLine, Look, Marking, Pen, Row, Step, Turns, behind_end, odd_len, split_front, split_lines,
 };
@@ -256,7 +256,7 @@ impl Overwriter {
             && self.pen.puts_plain(self.marking.shows_looks())
             && let Some((lines, rest)) = split_lines(bytes, LIMIT / 8)
         {
-            append_ascii(&self.marking, lines, out)?;
+            append_written(&self.marking, lines, out)?;
             self.pen.take(Step::NewLine, 0);
             return Ok(rest);
         }

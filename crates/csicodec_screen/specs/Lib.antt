@@ -2,8 +2,10 @@ pub mod Acts
 pub mod Areas
 pub mod Cells
 pub mod Draws
+pub mod Feeds
 pub mod Lists
 pub mod Private
 pub mod Rows
 pub mod Screen
 pub mod Steps
+pub mod Views

@@ -45,6 +45,13 @@ impl Back {
         }
     }
 
+    /// All of them, the latest first.
+    pub(crate) fn as_deque(&self) -> &VecDeque<Row>
+        ensures { result.now.items ≡ self.now }
+    {
+        &self.rows
+    }
+
     /// None is kept any more.
     pub(crate) fn clear(&mut self)
         ensures { self.new ≡ [] }

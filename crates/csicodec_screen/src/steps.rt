@@ -66,6 +66,14 @@ impl Screen {
         Ok(())
     }
 
+    /// A control string that isn't an operating system command: REP doesn't repeat over it.
+    pub fn pass_string(&mut self)
+        ensures { self.new ≡ step input.OtherString self.old }
+    {
+        self.last = None;
+        self.settle();
+    }
+
     /// What a window does: only its titles change. A new size is the caller's.
     fn window(&mut self, window: &Window) -> Result<(), AllocError>
         ensures { OnOk result (self.new ≡ of_window window.now self.old) }

@@ -1,4 +1,4 @@
--- What `filter`, `compact`, `strip`, `clean` and `html` write of an input.
+-- What `filter`, `compact`, `strip`, `clean`, `html` and `screen` write of an input.
 use Rattle.std.specs.Prelude.{ℕ, ◌≡◌, ◌⊎◌, Bool, true, false, ◌||◌, if◌then◌else◌, List, [], ◌++◌, Option, None, Some, Result, Ok, OnOk, OnErr, IsErr, option_map}
 use Rattle.std.specs.Borrow.{Bor}
 use Rattle.csicodec_spans.specs.declared.table.Mode.TheVariants.{Text as Plain}
@@ -16,7 +16,7 @@ use Rattle.csicodec_command.specs.{Recorded.recorded, Runs.StepsOf, Runs.Next, R
 use Rattle.csicodec_inspect.specs.Sent.{FrontsOf, IsAppended, IsWrittenBy}
 use Rattle.csicodec_tool.specs.{Log.IsLogged, Log.IsLoggedFront, Log.Logs, Log.LogsSome, declared.rewrite.Job.Job, declared.rewrite.Page.Page}
 use Rattle.csicodec_tool.specs.{declared.rewrite.Work.Work, declared.front.TheConstants.GIVEN, declared.front.TheConstants.TARGET}
-use Rattle.csicodec_tool.specs.{declared.front.Heading.Heading, Numbered.NumberedAs, Spelled.SpelledAs}
+use Rattle.csicodec_tool.specs.{declared.front.Heading.Heading, Numbered.NumberedAs, Shown.Shows, Shown.ShowsFront, Spelled.SpelledAs}
 
 -- the page of what is painted of the bytes
 abbrev pub PaintedPage : Markup → List ℕ → List ℕ → Type 0
@@ -50,13 +50,16 @@ Writes (Work.Log styles visible) bytes text = SpelledAs visible (Logs styles) by
 Writes (Work.Check visible) bytes text = text ≡ []
 Writes (Work.Clean passing lines visible) bytes text = SpelledAs visible (Cleaned passing lines) bytes text
 Writes (Work.Html heading page fragment begun) bytes text = PageText page bytes text
+Writes (Work.Screen display) bytes text = Shows display bytes text
 
--- Of an input that failed this went out: a front of the text of a front of its bytes, and of a filter's, of all of them.
+-- Of an input that failed this went out: a front of the text of a front of its bytes, and of a filter's, of all of them. Of a screen nothing is
+-- written ahead of the end.
 abbrev pub Sends : Work → List ℕ → List ℕ → Type 0
 Sends (Work.Filter true) bytes sent = IsFrontOf IsFaithful longest Plain bytes sent
 Sends (Work.Filter false) bytes sent = IsFrontOf NormalisesTo longest Plain bytes sent
 Sends (Work.Overwrite styles visible) bytes sent = FrontsOf (SpelledAs visible (IsLoggedFront styles)) bytes sent
 Sends (Work.Log styles visible) bytes sent = FrontsOf (SpelledAs visible (LogsSome styles)) bytes sent
+Sends (Work.Screen display) bytes sent = ShowsFront display bytes sent
 Sends w bytes sent = FrontsOf (Writes w) bytes sent
 
 -- an input was written as the work has it
@@ -111,10 +114,11 @@ pub record WroteBehind {A E : Type 0} (w : Work) (result : Result A E) (new : Wo
   pub wrote : OnOk headed (Wrote new result known ahead out)
   pub failed : OnErr headed (IsErr result × (out ≡ ahead))
 
--- a page has no recordings, and where it is only checked what is plain text, none is written
+-- a page and a screen have no recordings, and where it is only checked what is plain text, none is written
 abbrev pub makes_none : Work → Bool
 makes_none (Work.Check visible) = true
 makes_none (Work.Html heading page fragment begun) = true
+makes_none (Work.Screen display) = true
 makes_none w = false
 
 -- whether of a recording comes what becomes of its data, and no recording

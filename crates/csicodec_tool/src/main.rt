@@ -9,6 +9,7 @@ mod numbered;
 mod palette;
 mod rewrite;
 mod rewritten_cast;
+mod shown;
 mod spelled;
 mod unchanged;
 
@@ -83,6 +84,7 @@ fn work_of_task(rt: &HostRuntime, run: &Request<'_>) -> Result<(), u8> {
         },
         Task::Strip => Work::strip(run),
         Task::Clean => Work::clean(run),
+        Task::Screen => Work::screen(run),
     };
     let text = run.has("--text");
     work_through(rt, &mut Job { work, text }, run)

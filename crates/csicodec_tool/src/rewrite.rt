@@ -1,6 +1,6 @@
-//! What `csicodec filter`, `compact`, `strip`, `clean` and `html` make of a stream: with `filter` each control sequence in its normal
-//! form and all else as it came, with `compact` in a shorter spelling; with `strip` the plain text alone, with `clean` that and
-//! its styles; with `html` those as a page.
+//! What `csicodec filter`, `compact`, `strip`, `clean`, `html` and `screen` make of a stream: with `filter` each control sequence in its
+//! normal form and all else as it came, with `compact` in a shorter spelling; with `strip` the plain text alone, with `clean` that and
+//! its styles; with `html` those as a page; with `screen` what a terminal shows behind it.
 ghost use Rattle.std.specs.{Prelude.◌≡◌, Prelude.◌++◌, Prelude.[], Prelude.ℕ, Prelude.List, Prelude.false, Prelude.IfOk, Prelude.IfSome, Prelude.OnErr, Prelude.OnOk};
 ghost use Rattle.std.specs.{Prelude.option_map, Io.KnownBytes.Appends, Io.KnownBytes.Consumes, Io.KnownBytes.IsAtEnd};
 ghost use Rattle.csicodec_transform.specs.Transform.{Begins, Sends, Transforms};
@@ -13,9 +13,10 @@ use crate::front::{Heading, page_front};
 use crate::log::Log;
 use crate::numbered::Numberer;
 use crate::rewritten_cast::{Rewriter, rewrite_cast};
+use crate::shown::{Display, show_all};
 use crate::spelled::transform_as;
 use csicodec_clean::{Cleaner, Depth, Dropped, Kept, Passing};
-use csicodec_command::{Failure, Recorded, Request, Worker};
+use csicodec_command::{Failure, Recorded, Request, ScreenSize, Worker, is_cast};
 use csicodec_compact::{Compact, Compactor, compact_all};
 use csicodec_filter::{Faithful, Filter, NormalForm, filter_all};
 use csicodec_html::{BEHIND, Markup, Palette, SpanWriter, UNNAMED};
@@ -66,7 +67,17 @@ pub enum Work<'a> {
         fragment: bool,
         begun: bool,
     },
+    /// What a screen shows behind each input, which begins with a new one.
+    Screen {
+        display: Display,
+    },
 }
+
+/// The size of a screen where none is asked for, as that of the VT100.
+const USUAL_SIZE: ScreenSize = ScreenSize {
+    rows: 24,
+    columns: 80,
+};
 
 /// How a page is made.
 #[derive(Clone, Copy)]
@@ -161,6 +172,16 @@ fn write_page<R: Read, W: Write>(
     write_lines(alloc, page, cleaner, input, output)
 }
 
+/// Whether there are files, and the names of all say that they are recordings of asciinema.
+fn are_recordings(files: &[&str]) -> bool {
+    for file in files {
+        if !is_cast(file) {
+            return false;
+        }
+    }
+    !files.is_empty()
+}
+
 impl<'a> Work<'a> {
     /// Plain text, as the options of `strip` want it.
     pub fn strip(run: &Request<'a>) -> Work<'a> {
@@ -208,6 +229,23 @@ impl<'a> Work<'a> {
         }
     }
 
+    /// What a screen shows, as those of `screen` do.
+    pub fn screen(run: &Request<'a>) -> Work<'a> {
+        let marking = if run.has("--color") {
+            Marking::Styled
+        } else {
+            Marking::Plain
+        };
+        Work::Screen {
+            display: Display {
+                size: run.size.unwrap_or(USUAL_SIZE),
+                marking,
+                scrollback: run.has("--scrollback"),
+                raw: run.has("--raw") || are_recordings(&run.files),
+            },
+        }
+    }
+
     /// Whether what isn't seen is spelled.
     pub fn is_visible(&self) -> bool {
         match *self {
@@ -216,7 +254,8 @@ impl<'a> Work<'a> {
             | Work::Log { visible, .. }
             | Work::Clean { visible, .. } => visible,
             Work::Html { page, .. } => page.visible,
-            Work::Filter { .. } | Work::Compact { .. } | Work::Check { .. } => false,
+            Work::Filter { .. } | Work::Compact { .. } | Work::Check { .. } | Work::Screen { .. } =>
+                false,
         }
     }
 
@@ -247,7 +286,7 @@ impl<'a> Work<'a> {
             Work::Clean { passing, .. } => {
                 Rewriter::Styled(Cleaner::new(alloc, Kept::letting(alloc, *passing)))
             }
-            Work::Check { .. } | Work::Html { .. } => return Ok(None),
+            Work::Check { .. } | Work::Html { .. } | Work::Screen { .. } => return Ok(None),
         };
         Ok(Some(Box::new(alloc, stage)?))
     }
@@ -345,6 +384,7 @@ impl<'a> Work<'a> {
                 transform_as(alloc, visible, cleaner, input, output)
             }
             Work::Html { page, .. } => write_page(alloc, page, input, output),
+            Work::Screen { display } => show_all(alloc, display, input, output),
         }
     }
 

@@ -1,10 +1,26 @@
 -- The front of a line that is written as it comes. No promise rests on this file.
-use Rattle.std.specs.{Prelude.ℕ, Prelude.◌≡◌, Prelude.◌≤◌, Prelude.◌*◌, Prelude.List, Prelude.[], Prelude.◌∷◌, Prelude.◌++◌, Prelude.length, Prelude.take}
-use Rattle.std.specs.{List.AllByRecursion}
+use Rattle.std.specs.Prelude.{ℕ, ◌≡◌, ◌<◌, ◌≤◌, ◌*◌, ◌==◌, ◌&&◌, ⊤, Bool, true, not, List, [], ◌∷◌, ◌++◌, length, take, encode_utf8_all}
+use Rattle.std.specs.{List.AllByRecursion, Str.all_scalars}
 use Rattle.csicodec_looks.specs.{declared.look.Look.Look, Look.plain, declared.cells.Cell.Cell, Line.blank, Line.do_all, Line.line, Line.pen_behind_all}
-use Rattle.csicodec_looks.specs.{Line.most, Paint.look_of, Paint.turn, Paint.written, declared.marking.Marking.Marking, Cells.chars_of, declared.pen.Pen.Pen}
-use Rattle.csicodec_looks.specs.{declared.step.Step.Step, Plain.AreFull, Plain.closed, Plain.IsLineByte}
+use Rattle.csicodec_looks.specs.{Line.most, Paint.look_of, Paint.turn, Paint.written, declared.marking.Marking.Marking, Cells.chars_of, Cells.width}
+use Rattle.csicodec_looks.specs.{declared.pen.Pen.Pen, declared.step.Step.Step, Plain.AreFull, Plain.closed, Shown.shown}
 use Rattle.csicodec_overwrite.specs.{declared.front.LineFront.LineFront, Stream.Held, Stream.Reads, Turned.SetsLook}
+
+-- a tab or a character that is no control
+abbrev pub line_char : ℕ → Bool
+line_char c = shown c && not (c == 10)
+
+abbrev pub IsLineChar : ℕ → Type 0
+IsLineChar c = line_char c ≡ true
+
+-- the first of them takes a column: it is no mark
+abbrev pub IsLed : List ℕ → Type 0
+IsLed [] = ⊤
+IsLed (c ∷ cs) = (column : ℕ) → 0 < width c column
+
+-- text of a line, and its characters
+abbrev pub IsLineText : List ℕ → List ℕ → Type 0
+IsLineText text chars = (all_scalars chars ≡ true) × AllByRecursion IsLineChar chars × (text ≡ encode_utf8_all chars) × IsLed chars
 
 -- how the last character looks, where text of one look comes behind a character of another
 abbrev pub last_of_run : Look → Look → List ℕ → Look
@@ -47,14 +63,15 @@ IsTurned h marking old len new = SetsLook h (take len old.rest.now) old.now new.
 -- a sequence in front that sets how text looks is written, and the text behind it
 pub record IsStyled (h : Held) (marking : Marking) (old : LineFront) (before : List ℕ) (new : LineFront) (after : List ℕ) : Type 0 where
   pub sequence : List ℕ
+  pub text : List ℕ
   pub run : List ℕ
-  pub parts : old.rest.now ≡ sequence ++ (run ++ new.rest.now)
+  pub parts : old.rest.now ≡ sequence ++ (text ++ new.rest.now)
   pub sets : SetsLook h sequence old.now new.now
-  pub plain : AllByRecursion IsLineByte run
+  pub plain : IsLineText text run
   pub room : new.least ≤ length new.rest.now
   pub least : new.least ≡ old.least
   pub looks : new.last ≡ last_of_run old.last new.now run
-  pub text : after ≡ before ++ run_text marking old.last new.now run
+  pub longer : after ≡ before ++ run_text marking old.last new.now run
 
 -- the bytes up to the rest are a front, and its text is appended
 abbrev pub IsWrittenTo : Held → Marking → Pen → List ℕ → List ℕ → List ℕ → Look → Look → List ℕ → Type 0

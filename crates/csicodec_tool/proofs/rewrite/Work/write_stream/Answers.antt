@@ -94,3 +94,6 @@ returns-in-Clean g c =
 
 pub returns-in-Html : goal.returns-in-Html
 returns-in-Html g c = let a = c.in-Html in rw (a.is, ← a.page-is) c.write_page.ensures
+
+pub returns-in-Screen : goal.returns-in-Screen
+returns-in-Screen g c = let a = c.in-Screen in rw (a.is, ← a.display-is) c.show_all.ensures

@@ -1,0 +1,9 @@
+use Rattle.std.proofs.Common.{◌≡◌, length}
+use Rattle.csicodec_screen.specs.Views.{is_bare, trimmed}
+use Rattle.csicodec_screen.proofs.views.trimmed_rows.Given as goal
+
+abbrev pub invariant-loop-last : goal.invariant-loop-last
+invariant-loop-last l = trimmed is_bare l.rest ≡ trimmed is_bare l.rows
+
+abbrev pub decreases-loop-last : goal.decreases-loop-last
+decreases-loop-last l = length l.rest
